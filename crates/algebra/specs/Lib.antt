@@ -1,0 +1,9 @@
+pub mod Ring
+pub mod Order
+pub mod Vectors
+pub mod Dependence
+pub mod Solving
+pub mod Corner
+pub mod Theorems
+pub mod Ends
+pub mod Chaining

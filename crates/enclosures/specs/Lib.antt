@@ -1,0 +1,3 @@
+pub mod Verdicts
+pub mod Elimination
+pub mod Working

@@ -1,0 +1,4 @@
+pub mod Sizes
+pub mod Span
+pub mod Narrowing
+pub mod Containment

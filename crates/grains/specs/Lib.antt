@@ -1,0 +1,3 @@
+pub mod Arithmetic
+pub mod Narrowing
+pub mod Points

@@ -1,0 +1,7 @@
+use borrow.Author.Needs.{needs}
+use Rattle.systems.specs.Tables.{tabled}
+use Rattle.systems.proofs.system.System.places.Needs as need
+
+pub returns : need.returns
+unfolding tabled
+returns c = search needs

@@ -1,0 +1,75 @@
+//! What can be read off a system.
+use crate::draft::MOST_PLACES;
+use crate::entry::Entry;
+use crate::system::System;
+use crate::system::places;
+ghost use Prim.Native.Nat.{_≤_};
+ghost use lib.ListN.{length};
+ghost use mathlib.Core.Path.{_≡_};
+ghost use mathlib.Core.List.{map};
+ghost use Rattle.std.specs.Options.{mapped};
+ghost use Rattle.systems.specs.Entries.{endsOf};
+ghost use Rattle.systems.specs.Tables.{tableOf, tabled, entryAt, placesOf, wideEntries, midpointOf};
+
+impl System {
+    // The system of `size` rows with these entries.
+    pub(crate) fn of(size: usize, entries: [Entry; MOST_PLACES]) -> System
+        requires some { ⌜ 1 ≤ size ⌝ }
+        requires few { ⌜ size ≤ 6 ⌝ }
+        requires full { ⌜ length entries ≡ 42 ⌝ }
+        ensures { λ r. ⌜ tableOf r ≡ tabled size entries ⌝ }
+    {
+        System { size, entries }
+    }
+
+    /// The number of rows, from 1 to 6.
+    pub fn size(&self) -> usize
+        ensures value { λ r. ⌜ r ≡ tableOf (now (self .entry)) .size ⌝ }
+        ensures some { λ r. ⌜ 1 ≤ r ⌝ }
+        ensures few { λ r. ⌜ r ≤ 6 ⌝ }
+    {
+        self.size
+    }
+
+    /// The number of places: each row has one more entry than there are rows.
+    pub fn places(&self) -> usize
+        ensures { λ r. ⌜ r ≡ placesOf (tableOf (now (self .entry)) .size) ⌝ }
+    {
+        places(self.size)
+    }
+
+    /// The entry at a place, or none where there is no such place.
+    pub fn entry(&self, place: usize) -> Option<Entry>
+        ensures { λ r. ⌜ mapped endsOf r ≡ entryAt (tableOf (now (self .entry))) place ⌝ }
+    {
+        if place < places(self.size) {
+            Some(self.entries[place])
+        } else {
+            None
+        }
+    }
+
+    /// How many entries are wide.
+    pub fn wide_entries(&self) -> usize
+        ensures { λ r. ⌜ r ≡ wideEntries (tableOf (now (self .entry))) ⌝ }
+    {
+        let mut count = 0;
+        for place in 0..places(self.size) {
+            if self.entries[place].is_wide() {
+                count += 1;
+            }
+        }
+        count
+    }
+
+    /// The system in which every entry is thin at its midpoint.
+    pub fn midpoint(&self) -> System
+        ensures { λ r. ⌜ tableOf r ≡ midpointOf (tableOf (now (self .entry))) ⌝ }
+    {
+        let mut entries = self.entries;
+        for place in 0..places(self.size) {
+            entries[place] = entries[place].midpoint();
+        }
+        System::of(self.size, entries)
+    }
+}
