@@ -4,3 +4,5 @@ pub mod Vectors
 pub mod Dependence
 pub mod Solving
 pub mod Corner
+pub mod Chaining
+pub mod Filling

@@ -1,2 +1,5 @@
 pub mod Bytes
 pub mod Progress
+pub mod ReadBack
+pub mod Records
+pub mod WrittenAgain

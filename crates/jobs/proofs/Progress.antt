@@ -27,15 +27,15 @@ use Rattle.jobs.proofs.Bytes.{byte-on, number-on}
 
 -- ---- which record stands where
 module _ (stage : Stage) (places : ℕ) (before : Option ℕ) (bytes : List ℕ) where
-  at-size : recordAt stage places before bytes ≡ Ok Size → (stage ≡ First) × (3 ≤ length bytes)
+  pub at-size : recordAt stage places before bytes ≡ Ok Size → (stage ≡ First) × (3 ≤ length bytes)
   unfolding recordAt
   at-size e = (grind arith, grind arith)
 
-  at-entry : recordAt stage places before bytes ≡ Ok Entry → (stage ≡ Entries) × (11 ≤ length bytes)
+  pub at-entry : recordAt stage places before bytes ≡ Ok Entry → (stage ≡ Entries) × (11 ≤ length bytes)
   unfolding recordAt
   at-entry e = (grind arith, grind arith)
 
-  at-end : recordAt stage places before bytes ≡ Ok End → (stage ≡ Entries) × (length bytes ≡ 2)
+  pub at-end : recordAt stage places before bytes ≡ Ok End → (stage ≡ Entries) × (length bytes ≡ 2)
   unfolding recordAt
   at-end e = (grind arith, grind arith)
 
@@ -58,7 +58,7 @@ skipped t before (suc k) [] = refl
 skipped t before (suc k) (b ∷ bytes) = skipped t before k bytes
 
 -- a refusal of the record in front is the refusal of what is left
-left-refused : (stage : Stage) (t : Table) (before : Option ℕ) (bytes : List ℕ) (e : Refusal) → hasEnded stage ≡ false
+pub left-refused : (stage : Stage) (t : Table) (before : Option ℕ) (bytes : List ℕ) (e : Refusal) → hasEnded stage ≡ false
     → recordAt stage (placesOf (t .size)) before bytes ≡ Err e → left stage t before bytes ≡ Err e
 unfolding parsed records
 left-refused First t before bytes e still r = rw (first-alike (placesOf (t .size)) before bytes ∙ r)
@@ -67,12 +67,12 @@ left-refused Entries t before (b ∷ bytes) e still r = rw r
 left-refused Ended t before bytes e still r = absurd (let k : _≡_ {A = ℕ} 0 1 = cc in omega arith)
 
 -- what is left where a size, an entry or the end mark stands in front
-left-size : (t : Table) (places : ℕ) (before : Option ℕ) (bytes : List ℕ) → recordAt First places before bytes ≡ Ok Size
+pub left-size : (t : Table) (places : ℕ) (before : Option ℕ) (bytes : List ℕ) → recordAt First places before bytes ≡ Ok Size
     → left First t before bytes ≡ andThen (sized (byteAt bytes 2)) (λ u. records u None 0 (drop 3 bytes))
 unfolding parsed
 left-size t places before bytes r = rw (first-alike places before bytes ∙ r)
 
-left-entry : (t : Table) (before : Option ℕ) (bytes : List ℕ) → recordAt Entries (placesOf (t .size)) before bytes ≡ Ok Entry
+pub left-entry : (t : Table) (before : Option ℕ) (bytes : List ℕ) → recordAt Entries (placesOf (t .size)) before bytes ≡ Ok Entry
     → left Entries t before bytes
     ≡ andThen (entered t (byteAt bytes 2) (numberAt bytes 3) (numberAt bytes 7)) (λ u. records u (Some (byteAt bytes 2)) 0 (drop 11 bytes))
 unfolding records
@@ -83,7 +83,7 @@ left-entry t before (b ∷ bytes) r =
     rw r (λ i. andThen (entered t (byteAt (b ∷ bytes) 2) (numberAt (b ∷ bytes) 3) (numberAt (b ∷ bytes) 7))
     (λ u. skipped u (Some (byteAt (b ∷ bytes) 2)) 10 bytes i))
 
-left-end : (t : Table) (before : Option ℕ) (bytes : List ℕ) → recordAt Entries (placesOf (t .size)) before bytes ≡ Ok End
+pub left-end : (t : Table) (before : Option ℕ) (bytes : List ℕ) → recordAt Entries (placesOf (t .size)) before bytes ≡ Ok End
     → left Entries t before bytes ≡ Ok t
 unfolding records
 left-end t before [] r =

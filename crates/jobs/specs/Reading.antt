@@ -53,7 +53,7 @@ recordAt stage places before bytes =
       | Ended ↦ Err MarkNotAllowed
     ])
 
-abbrev isZero : ℤ → Bool
+abbrev pub isZero : ℤ → Bool
 isZero z = leZ z (pos 0) && leZ (pos 0) z
 
 -- the table with the entry from a to b at a place; an entry [0, 0] is refused last

@@ -2,3 +2,4 @@
 pub mod reader;
 #[cfg(test)]
 mod tests;
+pub mod writer;

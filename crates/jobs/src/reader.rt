@@ -10,6 +10,7 @@ ghost use Rattle.std.specs.declared.option.Option.the-variants.{None, Some};
 ghost use Rattle.systems.specs.Tables.{drafted, sized, Changed};
 ghost use Rattle.jobs.specs.Reading.{byteAt, numberAt, rising, recordAt, entered, parsed};
 ghost use Rattle.jobs.specs.Walking.{Stands, Entered, Walked, Onward, remaining, hasEnded};
+ghost use Rattle.jobs.specs.Writing.{WrittenAgain};
 
 // Where the reader stands: before the first record, among the entries, or behind the end mark.
 #[derive(Clone, Copy)]
@@ -157,9 +158,11 @@ impl Reader<'_> {
     }
 }
 
-/// Replaces the draft by the system that a job holds. A refusal leaves the draft as it was.
+/// Replaces the draft by the system that a job holds. A refusal leaves the draft as it was. A job that is read is the one that
+/// `write` writes for that system.
 pub fn read(job: &[u8], draft: &mut Draft) -> Result<(), Refusal>
-    ensures { λ r. ⌜ Changed r (now (draft .entry)) (now (draft .exit)) (parsed (now (job .entry))) ⌝ }
+    ensures value { λ r. ⌜ Changed r (now (draft .entry)) (now (draft .exit)) (parsed (now (job .entry))) ⌝ }
+    ensures written_again { λ r. ⌜ WrittenAgain r (now (job .entry)) (drafted (now (draft .exit))) ⌝ }
 {
     let mut reader = Reader {
         job,

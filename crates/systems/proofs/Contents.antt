@@ -15,7 +15,7 @@ use Rattle.std.specs.declared.result.Result.the-variants.{Ok}
 use Rattle.algebra.specs.Ends.{Ends}
 use Rattle.systems.specs.declared.entry.Entry.{Entry}
 use Rattle.systems.specs.Entries.{endsOf, entryOf, thin}
-use Rattle.systems.specs.Tables.{Table, placesOf, tabled, blank, entryAt, sized, placed}
+use Rattle.systems.specs.Tables.{Table, placesOf, tabled, blank, entryAt, endsAt, sized, placed}
 
 pub places-few : (n : ℕ) → n ≤ 6 → n * (n + 1) ≤ 42
 places-few n h = mul-le n (n + 1) 6 7 h (omega arith)
@@ -62,3 +62,22 @@ accepted-place n xs p a b e h r = at-size (tabled n xs) h ∙ ap Ok (sym (set-ta
   where
     at-size : (t : Table) → p < placesOf (t .size) → placed p a b t ≡ Ok (record { size = t .size; entries = set (t .entries) p (endsOf e) })
     at-size t q = grind arith
+
+-- an entry that is read by its place
+pub entry-there : (t : Table) (k : ℕ) (e : Ends) → entryAt t k ≡ Some e → endsAt t k ≡ e
+unfolding entryAt
+entry-there t k e found = there (t .entries) k e found
+  where
+    there : (es : List Ends) (i : ℕ) (x : Ends) → nth es i ≡ Some x → getD es i (thin (pos 0)) ≡ x
+    there [] i x f = cc
+    there (y ∷ es) zero x f = cc
+    there (y ∷ es) (suc i) x f = there es i x f
+
+pub entry-missing : (t : Table) (k : ℕ) → entryAt t k ≡ None → endsAt t k ≡ thin (pos 0)
+unfolding entryAt
+entry-missing t k found = missing (t .entries) k found
+  where
+    missing : (es : List Ends) (i : ℕ) → nth es i ≡ None → getD es i (thin (pos 0)) ≡ thin (pos 0)
+    missing [] i f = refl
+    missing (y ∷ es) zero f = cc
+    missing (y ∷ es) (suc i) f = missing es i f

@@ -4,13 +4,16 @@ use native.Mathlib.Omega.{arith}
 use mathlib.Core.Path.{_≡_, refl, sym, ap, _∙_}
 use mathlib.Core.Bool.{Bool, true, false, cond}
 use mathlib.Core.List.{List, [], _∷_, _++_, map}
+use lib.IntN.{pos}
 use lib.ListN.{length, getD, take, drop, set, length-map, length-take}
+use Rattle.std.specs.Iters.{counting}
 use Rattle.std.specs.shelf.Lists.{countBy}
-use Rattle.std.proofs.shelf.Lists.{take-more-set, map-push, map-more, drop-more, drop-set-lt, take-map, getD-map}
+use Rattle.std.proofs.shelf.Lists.{take-more-set, map-push, map-more, drop-more, drop-set-lt, take-map, getD-map, getD-take}
 use Rattle.std.proofs.shelf.Sums.{countBy-more-yes, countBy-more-no, countBy-le-length}
 use Rattle.systems.specs.declared.entry.Entry.{Entry}
-use Rattle.systems.specs.Entries.{endsOf, isWide, middle}
-use Rattle.systems.specs.Tables.{Table, placesOf, tabled, midpointOf, wideEntries}
+use Rattle.systems.specs.Boxes.{Marks, boxEntry, boxOf}
+use Rattle.systems.specs.Entries.{endsOf, isWide, middle, thin}
+use Rattle.systems.specs.Tables.{Table, placesOf, endsAt, tabled, midpointOf, wideEntries}
 
 -- one more entry is counted
 module _ (xs : List Entry) (i : ℕ) (e : Entry) (h : i < length xs) where
@@ -60,3 +63,12 @@ midpoint-tabled n now was e =
     map-twice : (xs : List Entry) → map (λ x. middle (endsOf x)) xs ≡ map middle (map endsOf xs)
     map-twice [] = refl
     map-twice (x ∷ xs) = ap (λ ys. middle (endsOf x) ∷ ys) (map-twice xs)
+
+-- ---- boxes
+pub ends-tabled : (n : ℕ) (xs : List Entry) (k : ℕ) (x : Entry) → k < placesOf n → k < length xs → endsAt (tabled n xs) k ≡ endsOf (getD xs k x)
+unfolding tabled
+ends-tabled n xs k x h l = getD-take (placesOf n) (map endsOf xs) k (thin (pos 0)) h ∙ getD-map endsOf xs k x (thin (pos 0)) l
+
+pub box-tabled : (n : ℕ) (now was : List Entry) (m : Marks) → map endsOf (take (placesOf n) now) ≡ map (boxEntry m (tabled n was)) (counting 0 (placesOf n)) → tabled n now ≡ boxOf m (tabled n was)
+unfolding tabled boxOf
+box-tabled n now was m e = ap (λ es. record { size = n; entries = es }) (take-map endsOf (placesOf n) now ∙ e)

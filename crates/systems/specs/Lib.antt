@@ -1,3 +1,5 @@
 pub mod Entries
 pub mod Refusals
 pub mod Tables
+pub mod Points
+pub mod Boxes

@@ -23,6 +23,8 @@ pub enum Refusal {
     EntryIsZero,
     /// 13: bytes follow the end mark.
     BytesAfterEnd,
+    /// 14: the buffer has no room for the job.
+    BufferTooShort,
 }
 
 impl Refusal {
@@ -40,6 +42,7 @@ impl Refusal {
             Refusal::PlaceNotRising => 11,
             Refusal::EntryIsZero => 12,
             Refusal::BytesAfterEnd => 13,
+            Refusal::BufferTooShort => 14,
         }
     }
 }

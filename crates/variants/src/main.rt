@@ -36,14 +36,14 @@ const JOB: [u8; 27] = [
 // How often each number was answered, 0 standing for a job that was read, and a digest of all answers in their order.
 #[derive(Clone, Copy)]
 struct Tally {
-    answers: [u32; 14],
+    answers: [u32; 15],
     digest: u64,
 }
 
 impl Tally {
     fn new() -> Tally {
         Tally {
-            answers: [0; 14],
+            answers: [0; 15],
             digest: 0,
         }
     }
@@ -59,7 +59,7 @@ impl Tally {
             Ok(()) => 0,
             Err(refusal) => refusal.number(),
         };
-        let index = number as usize % 14;
+        let index = number as usize % 15;
         self.answers[index] = self.answers[index].saturating_add(1);
         self.mix(u64::from(number));
         let system = draft.close();
@@ -73,7 +73,7 @@ impl Tally {
     }
 
     fn show(&self, rt: &impl Print) -> io::Result<()> {
-        for number in 0..14usize {
+        for number in 0..15usize {
             let count = self.answers[number];
             if count > 0 {
                 print!(rt, " {number}:{count}")?;

@@ -5,7 +5,7 @@ use crate::refusal::Refusal;
 ghost use lib.IntN.{pos};
 ghost use mathlib.Core.Path.{_≡_};
 ghost use Rattle.algebra.specs.Ends.{from-to};
-ghost use Rattle.systems.specs.Entries.{endsOf, entryAnswer, entryOf, isWide, middle};
+ghost use Rattle.systems.specs.Entries.{endsOf, entryAnswer, entryOf, isWide, middle, thin};
 
 impl Entry {
     /// The entry from `low` to `high`: refused with 3 where an end is out of range, then with 4 where they are out of order.
@@ -57,6 +57,26 @@ impl Entry {
         Entry {
             low: half,
             high: half,
+        }
+    }
+
+    /// The entry that is thin at the low end.
+    pub fn at_low(self) -> Entry
+        ensures { λ r. ⌜ endsOf r ≡ thin (endsOf self .low) ⌝ }
+    {
+        Entry {
+            low: self.low,
+            high: self.low,
+        }
+    }
+
+    /// The entry that is thin at the high end.
+    pub fn at_high(self) -> Entry
+        ensures { λ r. ⌜ endsOf r ≡ thin (endsOf self .high) ⌝ }
+    {
+        Entry {
+            low: self.high,
+            high: self.high,
         }
     }
 }

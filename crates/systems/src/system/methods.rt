@@ -3,13 +3,36 @@ use crate::draft::MOST_PLACES;
 use crate::entry::Entry;
 use crate::system::System;
 use crate::system::places;
-ghost use Prim.Native.Nat.{_≤_};
+ghost use Prim.Native.Nat.{_≤_, _<_};
 ghost use lib.ListN.{length};
 ghost use mathlib.Core.Path.{_≡_};
 ghost use mathlib.Core.List.{map};
 ghost use Rattle.std.specs.Options.{mapped};
+ghost use Rattle.systems.specs.Boxes.{bit, fixedEntry, boxOf};
 ghost use Rattle.systems.specs.Entries.{endsOf};
 ghost use Rattle.systems.specs.Tables.{tableOf, tabled, entryAt, placesOf, wideEntries, midpointOf};
+
+// Whether the bit of a place is 1.
+fn has_mark(marks: u64, place: usize) -> bool
+    requires { ⌜ place < 64 ⌝ }
+    ensures { λ r. ⌜ r ≡ bit marks place ⌝ }
+{
+    (marks >> place) % 2 == 1
+}
+
+// The entry at a place, thin at an end where the marks say so.
+fn fixed_entry(entry: Entry, fixed: u64, ends: u64, place: usize) -> Entry
+    requires { ⌜ place < 64 ⌝ }
+    ensures { λ r. ⌜ endsOf r ≡ fixedEntry (record { fixed = fixed; ends = ends }) place (endsOf entry) ⌝ }
+{
+    if !has_mark(fixed, place) {
+        entry
+    } else if has_mark(ends, place) {
+        entry.at_high()
+    } else {
+        entry.at_low()
+    }
+}
 
 impl System {
     // The system of `size` rows with these entries.
@@ -69,6 +92,18 @@ impl System {
         let mut entries = self.entries;
         for place in 0..places(self.size) {
             entries[place] = entries[place].midpoint();
+        }
+        System::of(self.size, entries)
+    }
+
+    /// The box of the system under marks: where bit k of `fixed` is 1, the entry at place k is thin, at its high end where bit k of
+    /// `ends` is 1 and else at its low end; the other entries are as they are.
+    pub fn boxed(&self, fixed: u64, ends: u64) -> System
+        ensures { λ r. ⌜ tableOf r ≡ boxOf (record { fixed = fixed; ends = ends }) (tableOf (now (self .entry))) ⌝ }
+    {
+        let mut entries = self.entries;
+        for place in 0..places(self.size) {
+            entries[place] = fixed_entry(self.entries[place], fixed, ends, place);
         }
         System::of(self.size, entries)
     }
