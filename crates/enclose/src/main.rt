@@ -1,10 +1,15 @@
 //! Reads a job from standard input and prints an interval for each component of the solutions of its system, in grains.
 use enclosures::elimination::Elimination;
+use enclosures::elimination::EliminationEnclosure;
+use enclosures::enclosure::Enclosure;
+use enclosures::sweep::Sweep;
+use enclosures::sweep::SweepEnclosure;
 use grains::interval::Interval;
 use jobs::reader::read;
 use std::io;
 use std::io::Read;
 use systems::draft::Draft;
+use systems::system::System;
 ghost use Prim.Native.Nat.{_≤_};
 ghost use Rattle.std.specs.Vec.{made};
 
@@ -29,7 +34,7 @@ fn fill<R: Read>(input: &mut R, buffer: &mut [u8; ROOM]) -> io::Result<usize>
     Ok(len)
 }
 
-// Prints the row that elimination gives for a job, or the number of the refusal.
+// Prints the row of elimination for a job and beside it the row after one sweep, or the number of the refusal.
 fn report(rt: &impl Print, job: &[u8]) -> io::Result<()> {
     let mut draft = Draft::new();
     if let Err(refusal) = read(job, &mut draft) {
@@ -38,16 +43,30 @@ fn report(rt: &impl Print, job: &[u8]) -> io::Result<()> {
     }
     let system = draft.close();
     let mut row = [Interval::zero(); 6];
+    let mut swept = row;
     if let Err(fault) = Elimination.enclose(&system, &mut row) {
         let number = fault.number;
         return println!(rt, "refused {number}");
     }
-    println!(rt, "comp low high")?;
+    // The sweep refuses exactly where elimination does.
+    let _ = Sweep { below: Elimination }.enclose(&system, &mut swept);
+    print_rows(rt, &system, &row, &swept)
+}
+
+fn print_rows(
+    rt: &impl Print,
+    system: &System,
+    row: &[Interval; 6],
+    swept: &[Interval; 6],
+) -> io::Result<()> {
+    println!(rt, "comp low high swept-low swept-high")?;
     for i in 0..system.size() {
         let component = i + 1;
         let low = row[i].low();
         let high = row[i].high();
-        println!(rt, "{component} {low} {high}")?;
+        let swept_low = swept[i].low();
+        let swept_high = swept[i].high();
+        println!(rt, "{component} {low} {high} {swept_low} {swept_high}")?;
     }
     Ok(())
 }

@@ -19,7 +19,7 @@ use Rattle.enclosures.specs.declared.line.Line.{Line}
 use Rattle.enclosures.specs.Elimination.{eliminated, rowOf, eliminationOf}
 use Rattle.enclosures.specs.Verdicts.{Verdict, verdictOf, faultOf, Encloses}
 use Rattle.enclosures.specs.Working.{lined}
-use Rattle.enclosures.proofs.Filling.{between-start}
+use Rattle.algebra.proofs.Filling.{between-start}
 
 module _ (t : Table) (n : ℕ) (ls : List Line) (size : n ≡ t .size) (read : lined 0 (t .size) ls ≡ map (rowOf t) (counting 0 (t .size))) where
   walked : eliminated (n - 0) (lined 0 n ls) ≡ eliminated (t .size) (map (rowOf t) (counting 0 (t .size)))

@@ -1,36 +1,27 @@
 //! Interval Gaussian elimination, in exact grain arithmetic and without exchanging rows.
+use crate::enclosure::Enclosure;
 use crate::fault::Fault;
 use crate::fault::FaultFromArithmetic;
 use crate::line::Line;
+use crate::working::less_multiple;
+use crate::working::less_products;
+use crate::working::line;
 use grains::interval::ArithmeticError;
-use grains::interval::GRAINS;
 use grains::interval::Interval;
-use systems::entry::Entry;
 use systems::system::System;
 ghost use Prim.Native.Nat.{_+_, _-_, _<_, _≤_};
-ghost use lib.IntN.{pos, _*ℤ_};
 ghost use lib.ListN.{length};
 ghost use mathlib.Core.List.{map};
 ghost use mathlib.Core.Path.{_≡_};
-ghost use Rattle.algebra.specs.Ends.{Ends};
 ghost use Rattle.std.specs.Results.{mapped};
 ghost use Rattle.std.specs.Vec.{made};
 ghost use Rattle.std.specs.shelf.Lists.{between};
 ghost use Rattle.algebra.specs.Chaining.{Leaves, each, eachWith};
 ghost use Rattle.grains.specs.Arithmetic.{endsOf, answerOf};
 ghost use Rattle.std.specs.Iters.{counting};
-ghost use Rattle.systems.specs.Entries.{endsOf as entryEnds};
-ghost use Rattle.systems.specs.Tables.{endsAt, tableOf};
-ghost use Rattle.enclosures.specs.Elimination.{lessMultiple, solvedOf, reducedOf, eliminated, inGrains, rowOf, eliminationOf};
-ghost use Rattle.enclosures.specs.Verdicts.{Encloses};
+ghost use Rattle.systems.specs.Tables.{tableOf};
+ghost use Rattle.enclosures.specs.Elimination.{lessMultiple, solvedOf, reducedOf, eliminated, rowOf, eliminationOf};
 ghost use Rattle.enclosures.specs.Working.{viewed, lined};
-
-// `a - m * b`.
-fn less_multiple(m: Interval, a: Interval, b: Interval) -> Result<Interval, ArithmeticError>
-    ensures { λ r. ⌜ answerOf r ≡ lessMultiple (endsOf m) (endsOf a) (endsOf b) ⌝ }
-{
-    a.difference(m.product(b)?)
-}
 
 // The coefficients of a line from k + 1 on, less m times those of the pivot line.
 fn reduced_coefficients(
@@ -78,11 +69,7 @@ fn solved(
     requires few { ⌜ n ≤ 6 ⌝ }
     ensures { λ r. ⌜ answerOf r ≡ solvedOf (viewed k n (now (pivot .entry))) (between (k + 1) n (map endsOf (now (components .entry)))) ⌝ }
 {
-    let mut rest = pivot.right;
-    for later in k + 1..n {
-        rest = less_multiple(pivot.coefficients[later], rest, components[later])?;
-    }
-    rest.quotient(pivot.coefficients[k])
+    less_products(pivot.right, pivot, components, k + 1, n)?.quotient(pivot.coefficients[k])
 }
 
 // Clears coefficient k of the lines after line k.
@@ -126,47 +113,6 @@ fn solve_from(
     Ok(())
 }
 
-// An end in grains.
-fn scaled(end: i32) -> i64
-    ensures { λ r. ⌜ r ≡ end *ℤ pos 16384 ⌝ }
-{
-    i64::from(end) * GRAINS
-}
-
-// An entry in grains.
-fn in_grains(entry: Entry) -> Interval
-    ensures { λ r. ⌜ endsOf r ≡ inGrains (entryEnds entry) ⌝ }
-{
-    Interval::new(scaled(entry.low()), scaled(entry.high())).unwrap()
-}
-
-// The entry at a place, in grains.
-fn working(system: &System, place: usize) -> Interval
-    ensures { λ r. ⌜ endsOf r ≡ inGrains (endsAt (tableOf (now (system .entry))) place) ⌝ }
-{
-    match system.entry(place) {
-        Some(entry) => in_grains(entry),
-        None => Interval::zero(),
-    }
-}
-
-// Row i of a system as a line.
-fn line(system: &System, i: usize) -> Line
-    requires { ⌜ i < 6 ⌝ }
-    ensures { λ r. ⌜ viewed 0 (tableOf (now (system .entry)) .size) r ≡ rowOf (tableOf (now (system .entry))) i ⌝ }
-{
-    let n = system.size();
-    let start = i * (n + 1);
-    let mut coefficients = [Interval::zero(); 6];
-    for j in 0..n {
-        coefficients[j] = working(system, start + j);
-    }
-    Line {
-        coefficients,
-        right: working(system, start + n),
-    }
-}
-
 // The rows of a system as lines.
 fn lines(system: &System) -> [Line; 6]
     ensures { λ r. ⌜ lined 0 (tableOf (now (system .entry)) .size) r ≡ map (rowOf (tableOf (now (system .entry)))) (counting 0 (tableOf (now (system .entry)) .size)) ⌝ }
@@ -185,12 +131,12 @@ fn lines(system: &System) -> [Line; 6]
 #[derive(Clone, Copy)]
 pub struct Elimination;
 
-impl Elimination {
+pub impl Enclosure for Elimination as EliminationEnclosure {
+    ghost meaning = { λ _. eliminationOf };
+
     /// Writes an interval for each component of the system's solutions into the first places of the row, one for each row of
     /// the system. A refusal, 6 for a pivot that contains 0 and 7 for a step that leaves the span, changes none of the six.
-    pub fn enclose(&self, system: &System, row: &mut [Interval; 6]) -> Result<(), Fault>
-        ensures { λ r. ⌜ Encloses r (now (row .entry)) (now (row .exit)) (eliminationOf (tableOf (now (system .entry)))) ⌝ }
-    {
+    fn enclose(&self, system: &System, row: &mut [Interval; 6]) -> Result<(), Fault> {
         let n = system.size();
         let mut components = [Interval::zero(); 6];
         solve_from(0, n, &mut lines(system), &mut components)?;

@@ -3,7 +3,8 @@ use grains::interval::ArithmeticError;
 ghost use mathlib.Core.Path.{_≡_};
 ghost use Rattle.enclosures.specs.Verdicts.{faultOf};
 
-/// A method's refusal. 6: a pivot contains 0; 7: a product, a difference or a quotient leaves the span.
+/// A method's refusal. 6: a pivot contains 0; 7: a product, a difference or a quotient leaves the span; 8: a diagonal entry does not
+/// outweigh the rest of its row.
 #[derive(Clone, Copy, PartialEq, Eq, Debug)]
 pub struct Fault {
     pub number: u32,

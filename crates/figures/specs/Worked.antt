@@ -9,6 +9,8 @@ use Rattle.grains.specs.Arithmetic.{quotientOf}
 use Rattle.systems.specs.Entries.{thin, middle}
 use Rattle.systems.specs.Tables.{Table}
 use Rattle.enclosures.specs.Elimination.{inGrains, eliminationOf}
+use Rattle.enclosures.specs.RowSums.{rowSumsOf}
+use Rattle.enclosures.specs.Sweeping.{sweepOf}
 
 -- a system of one row, and one of two
 abbrev pub one-row : Ends → Ends → Table
@@ -20,6 +22,14 @@ two-rows a b r c d s = record { size = 2; entries = a ∷ b ∷ r ∷ c ∷ d �
 -- 1, c / c, 1 with the right side 1, 0
 abbrev pub coupled : ℤ → Table
 coupled c = two-rows (thin (pos 1)) (thin c) (thin (pos 1)) (thin c) (thin (pos 1)) (thin (pos 0))
+
+-- [2, 4], [-2, 1] / [-1, 2], [2, 4] with the right side [-2, 2] twice
+abbrev pub wide-rows : Table
+wide-rows = two-rows (from-to (pos 2) (pos 4)) (from-to (negsuc 1) (pos 1)) (from-to (negsuc 1) (pos 2)) (from-to (negsuc 0) (pos 2)) (from-to (pos 2) (pos 4)) (from-to (negsuc 1) (pos 2))
+
+-- 4, 1 / 1, 4 with the right side 5, 5
+abbrev pub even-rows : Table
+even-rows = two-rows (thin (pos 4)) (thin (pos 1)) (thin (pos 5)) (thin (pos 1)) (thin (pos 4)) (thin (pos 5))
 
 pub record Worked : Type 0 where
   -- the midpoint of [-3, 0] is -2
@@ -35,6 +45,10 @@ pub record Worked : Type 0 where
   -- a coupling of 362 is accepted, one of 363 leaves the span
   pub strong-coupling : eliminationOf (coupled (pos 362)) ≡ Ok (from-to (negsuc 267) (pos 94) ∷ from-to (pos 45) (pos 46) ∷ [])
   pub stronger-coupling : eliminationOf (coupled (pos 363)) ≡ Err (record { number = 7 })
-  -- [2, 4], [-2, 1] / [-1, 2], [2, 4] with the right side [-2, 2] twice
-  pub two-unknowns : eliminationOf (two-rows (from-to (pos 2) (pos 4)) (from-to (negsuc 1) (pos 1)) (from-to (negsuc 1) (pos 2)) (from-to (negsuc 0) (pos 2)) (from-to (pos 2) (pos 4)) (from-to (negsuc 1) (pos 2)))
-      ≡ Ok (from-to (negsuc 81919) (pos 81920) ∷ from-to (negsuc 65535) (pos 65536) ∷ [])
+  -- wide rows
+  pub two-unknowns : eliminationOf wide-rows ≡ Ok (from-to (negsuc 81919) (pos 81920) ∷ from-to (negsuc 65535) (pos 65536) ∷ [])
+  -- row sums refuse them: in the first, 2 does not outweigh 2
+  pub not-outweighed : rowSumsOf wide-rows ≡ Err (record { number = 8 })
+  -- row sums of even rows: 5 × 16384 over 3, rounded up; one sweep narrows both components
+  pub outweighed : rowSumsOf even-rows ≡ Ok (from-to (negsuc 27306) (pos 27307) ∷ from-to (negsuc 27306) (pos 27307) ∷ [])
+  pub swept : sweepOf rowSumsOf even-rows ≡ Ok (from-to (pos 13653) (pos 27307) ∷ from-to (pos 13653) (pos 17067) ∷ [])

@@ -1,13 +1,16 @@
 -- Each figure is computed.
 use mathlib.Core.Path.{refl}
 use Rattle.algebra.specs.Order.{floorDiv, ceilDiv, floorQuot, ceilQuot}
-use Rattle.grains.specs.Arithmetic.{inSpan, times, leastOf, greatestOf, leastProduct, greatestProduct, productOf, differenceOf, containsZero, quotientDown, quotientUp, leastQuotient, greatestQuotient, quotientOf}
+use Rattle.algebra.specs.Vectors.{sum}
+use Rattle.grains.specs.Arithmetic.{inSpan, times, leastOf, greatestOf, leastProduct, greatestProduct, productOf, differenceOf, containsZero, commonOf, quotientDown, quotientUp, leastQuotient, greatestQuotient, quotientOf}
 use Rattle.systems.specs.Entries.{middle}
 use Rattle.enclosures.specs.Elimination.{lessMultiple, reducedOf, solvedOf, eliminated, rowOf, eliminationOf}
+use Rattle.enclosures.specs.RowSums.{magnitude, mignitude, excessOf, boundOf, greatestBound, rowSumsOf}
+use Rattle.enclosures.specs.Sweeping.{solvedFor, sweptFrom, sweepOf}
 use Rattle.figures.proofs.worked_figures.Needs as need
 
 pub returns : need.returns
-unfolding floorDiv ceilDiv floorQuot ceilQuot inSpan times leastOf greatestOf leastProduct greatestProduct productOf differenceOf containsZero quotientDown quotientUp leastQuotient greatestQuotient quotientOf middle lessMultiple reducedOf solvedOf eliminated rowOf eliminationOf
+unfolding floorDiv ceilDiv floorQuot ceilQuot inSpan times leastOf greatestOf leastProduct greatestProduct productOf differenceOf containsZero commonOf quotientDown quotientUp leastQuotient greatestQuotient quotientOf middle lessMultiple reducedOf solvedOf eliminated rowOf eliminationOf sum magnitude mignitude excessOf boundOf greatestBound rowSumsOf solvedFor sweptFrom sweepOf
 returns c = record {
   midpoint = refl;
   third = refl;
@@ -18,4 +21,7 @@ returns c = record {
   strong-coupling = refl;
   stronger-coupling = refl;
   two-unknowns = refl;
+  not-outweighed = refl;
+  outweighed = refl;
+  swept = refl;
 }

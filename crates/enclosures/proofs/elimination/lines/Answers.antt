@@ -7,7 +7,7 @@ use Rattle.std.specs.Iters.{counting}
 use Rattle.systems.specs.Tables.{tableOf}
 use Rattle.enclosures.specs.Elimination.{rowOf}
 use Rattle.enclosures.specs.Working.{viewed}
-use Rattle.enclosures.proofs.Filling.{filled-more, filled-all}
+use Rattle.algebra.proofs.Filling.{filled-more, filled-all}
 use Rattle.enclosures.proofs.elimination.lines.Needs as need
 
 pub loop-i-again : need.loop-i-again
