@@ -1,7 +1,6 @@
 //! Row sums: one bound for all components, from how far each diagonal entry outweighs the rest of its row.
 use crate::enclosure::Enclosure;
 use crate::fault::Fault;
-use crate::scaling::entry_at;
 use grains::interval::GRAINS;
 use grains::interval::Interval;
 use systems::entry::Entry;
@@ -14,7 +13,7 @@ ghost use Rattle.algebra.specs.Ends.{from-to};
 ghost use Rattle.algebra.specs.Order.{Within, ceilQuot};
 ghost use Rattle.grains.specs.Arithmetic.{endsOf, containsZero};
 ghost use Rattle.systems.specs.Entries.{endsOf as entryEnds};
-ghost use Rattle.systems.specs.Tables.{endsAt, tableOf};
+ghost use Rattle.systems.specs.Tables.{tableOf};
 ghost use Rattle.enclosures.specs.RowSums.{absolute as absoluteOf, magnitude as magnitudeOf, mignitude as mignitudeOf, besides as besidesOf, excessOf, boundOf, greatestBound, rowSumsOf};
 
 // The least excess that a row needs.
@@ -60,7 +59,7 @@ fn besides(system: &System, i: usize, j: usize) -> i64
     ensures value { λ r. ⌜ r ≡ besidesOf (tableOf (now (system .entry))) i j ⌝ }
     ensures small { λ r. ⌜ Within (pos 0) (pos 65536) r ⌝ }
 {
-    let size = magnitude(entry_at(system, i * (system.size() + 1) + j));
+    let size = magnitude(system.entry_or_zero(i * (system.size() + 1) + j));
     if j == i { 0 } else { size }
 }
 
@@ -71,7 +70,7 @@ fn excess(system: &System, i: usize) -> i64
     ensures small { λ r. ⌜ Within (negℤ (pos 393216)) (pos 65536) r ⌝ }
 {
     let n = system.size();
-    let mut g = mignitude(entry_at(system, i * (n + 1) + i));
+    let mut g = mignitude(system.entry_or_zero(i * (n + 1) + i));
     for j in 0..n {
         g -= besides(system, i, j);
     }
@@ -99,7 +98,7 @@ fn bound(system: &System, i: usize) -> Result<i64, Fault>
         return Err(Fault { number: 8 });
     }
     let n = system.size();
-    let size = magnitude(entry_at(system, i * (n + 1) + n));
+    let size = magnitude(system.entry_or_zero(i * (n + 1) + n));
     Ok(over(size, g))
 }
 

@@ -24,19 +24,9 @@ pub fn in_grains(entry: Entry) -> Interval
     Interval::new(scaled(entry.low()), scaled(entry.high())).unwrap()
 }
 
-/// The entry at a place; [0, 0] where there is no such place.
-pub fn entry_at(system: &System, place: usize) -> Entry
-    ensures { λ r. ⌜ entryEnds r ≡ endsAt (tableOf (now (system .entry))) place ⌝ }
-{
-    match system.entry(place) {
-        Some(entry) => entry,
-        None => Entry::zero(),
-    }
-}
-
 /// The entry at a place in grains; [0, 0] where there is no such place.
 pub fn in_grains_at(system: &System, place: usize) -> Interval
     ensures { λ r. ⌜ endsOf r ≡ inGrains (endsAt (tableOf (now (system .entry))) place) ⌝ }
 {
-    in_grains(entry_at(system, place))
+    in_grains(system.entry_or_zero(place))
 }

@@ -6,7 +6,7 @@ ghost use Prim.Native.Nat.{_+_, _≤_, _<_};
 ghost use lib.ListN.{length};
 ghost use mathlib.Core.Path.{_≡_};
 ghost use Rattle.systems.specs.Entries.{endsOf};
-ghost use Rattle.systems.specs.Tables.{endsAt, tableOf};
+ghost use Rattle.systems.specs.Tables.{tableOf};
 ghost use Rattle.jobs.specs.Writing.{fourBytes, leftOut, overwritten, recordOf, recordsFrom, written, ReadsBack, Writes};
 
 // Writes the bytes over the buffer from a position on.
@@ -15,16 +15,6 @@ fn put(buffer: &mut [u8], at: usize, bytes: &[u8])
     ensures { λ _. ⌜ now (buffer .exit) ≡ overwritten (now (buffer .entry)) at (now (bytes .entry)) ⌝ }
 {
     buffer[at..at + bytes.len()].copy_from_slice(bytes);
-}
-
-// The entry at a place, [0, 0] where there is none.
-fn entry_at(system: &System, place: usize) -> Entry
-    ensures { λ r. ⌜ endsOf r ≡ endsAt (tableOf (now (system .entry))) place ⌝ }
-{
-    match system.entry(place) {
-        Some(entry) => entry,
-        None => Entry::zero(),
-    }
 }
 
 // An end of an entry in two's complement, the highest byte first.
@@ -54,7 +44,7 @@ fn job_length(system: &System) -> usize
 {
     let mut length = 5;
     for place in 0..system.places() {
-        length += record_length(entry_at(system, place));
+        length += record_length(system.entry_or_zero(place));
     }
     length
 }
@@ -85,7 +75,7 @@ fn put_records(buffer: &mut [u8], from: usize, system: &System) -> usize
 {
     let mut at = from;
     for place in 0..system.places() {
-        at = put_record(buffer, at, place as u8, entry_at(system, place));
+        at = put_record(buffer, at, place as u8, system.entry_or_zero(place));
     }
     at
 }

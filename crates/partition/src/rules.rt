@@ -1,6 +1,5 @@
 //! The two built rules: the widest entry, and the entry whose width weighs most.
 use crate::rule::Rule;
-use enclosures::scaling::entry_at;
 use grains::interval::GRAINS;
 use grains::interval::Interval;
 use systems::entry::Entry;
@@ -98,7 +97,7 @@ fn scan<W: Weigh>(weigher: &W, system: &System, row: &[Interval]) -> Option<usiz
 {
     let mut best = None;
     for place in 0..system.places() {
-        if entry_at(system, place).is_wide() {
+        if system.entry_or_zero(place).is_wide() {
             best = heavier(best, place, weigher.weigh(system, row, place));
         }
     }
@@ -116,7 +115,7 @@ impl Weigh for Widest as WidestWeigh {
     ghost weight = { λ _. widthAt };
 
     fn weigh(&self, system: &System, _row: &[Interval], place: usize) -> i64 {
-        width_of(entry_at(system, place))
+        width_of(system.entry_or_zero(place))
     }
 }
 
@@ -138,7 +137,7 @@ impl Weigh for Heaviest as HeaviestWeigh {
 
     fn weigh(&self, system: &System, row: &[Interval], place: usize) -> i64 {
         times(
-            width_of(entry_at(system, place)),
+            width_of(system.entry_or_zero(place)),
             leverage_of(system.size(), row, place),
         )
     }

@@ -10,7 +10,7 @@ ghost use mathlib.Core.List.{map};
 ghost use Rattle.std.specs.Options.{mapped};
 ghost use Rattle.systems.specs.Boxes.{bit, fixedEntry, boxOf};
 ghost use Rattle.systems.specs.Entries.{endsOf};
-ghost use Rattle.systems.specs.Tables.{tableOf, tabled, entryAt, placesOf, wideEntries, midpointOf};
+ghost use Rattle.systems.specs.Tables.{tableOf, tabled, entryAt, placesOf, wideEntries, midpointOf, endsAt};
 
 // Whether the bit of a place is 1.
 fn has_mark(marks: u64, place: usize) -> bool
@@ -69,6 +69,16 @@ impl System {
             Some(self.entries[place])
         } else {
             None
+        }
+    }
+
+    /// The entry at a place; [0, 0] where there is no such place.
+    pub fn entry_or_zero(&self, place: usize) -> Entry
+        ensures { λ r. ⌜ endsOf r ≡ endsAt (tableOf (now (self .entry))) place ⌝ }
+    {
+        match self.entry(place) {
+            Some(entry) => entry,
+            None => Entry::zero(),
         }
     }
 

@@ -15,5 +15,5 @@ returns-else-j-i c =
     let t = tableOf (c .args .system .now) in
     let i = c .args .i in
     let j = c .args .j in
-    let read = c .entry-at .ensures ∙ ap (λ n. endsAt t (i * (n + 1) + j)) (c .size .ensures .value) in
+    let read = c .entry-or-zero .ensures ∙ ap (λ n. endsAt t (i * (n + 1) + j)) (c .size .ensures .value) in
     record { value = omega (arith, ints) ∙ c .magnitude-size .ensures .value ∙ ap magnitude read ∙ besides-other t i j (c .if-j-i .left); small = omega (arith, ints) }

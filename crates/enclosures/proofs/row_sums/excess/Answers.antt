@@ -11,7 +11,7 @@ pub loop-j-holds : need.loop-j-holds
 loop-j-holds c =
     let t = tableOf (c .args .system .now) in
     let i = c .args .i in
-    let read = c .entry-at .ensures ∙ ap (λ n. endsAt t (i * (n + 1) + i)) (c .size-n .ensures .value) in
+    let read = c .entry-or-zero .ensures ∙ ap (λ n. endsAt t (i * (n + 1) + i)) (c .size-n .ensures .value) in
     (part-none t i _ (omega (arith, ints) ∙ c .mignitude-g .ensures .value ∙ ap mignitude read), omega (arith, ints))
 
 pub loop-j-again : need.loop-j-again

@@ -3,4 +3,4 @@ use Rattle.enclosures.specs.Elimination.{inGrains}
 use Rattle.enclosures.proofs.scaling.in_grains_at.Needs as need
 
 pub returns : need.returns
-returns c = c .in-grains .ensures ∙ ap inGrains (c .entry-at .ensures)
+returns c = c .in-grains .ensures ∙ ap inGrains (c .entry-or-zero .ensures)

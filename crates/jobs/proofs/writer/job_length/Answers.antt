@@ -10,7 +10,7 @@ use Rattle.jobs.proofs.writer.job_length.Needs as need
 pub add-length : need.add-length
 add-length c =
     let few = passed-few (c .args .system .now) (c .loop-place .place) in
-    let here = record-few 0 (endsOf (c .entry-at .result)) in
+    let here = record-few 0 (endsOf (c .entry-or-zero .result)) in
     omega (arith, c .record-length-length .ensures, c .loop-place .inv)
 
 pub loop-place-holds : need.loop-place-holds
@@ -20,9 +20,9 @@ pub loop-place-again : need.loop-place-again
 loop-place-again c =
     let s = c .args .system .now in
     let k = c .loop-place .place in
-    let e = c .entry-at .result in
+    let e = c .entry-or-zero .result in
     let below : k < placesOf (tableOf s .size) = omega arith in
-    let long = simp length-append at (ap length (passed-more s k e below (c .entry-at .ensures))) in
+    let long = simp length-append at (ap length (passed-more s k e below (c .entry-or-zero .ensures))) in
     omega (arith, c .record-length-length .ensures, c .loop-place .inv, same-length k (endsOf e))
 
 pub returns : need.returns

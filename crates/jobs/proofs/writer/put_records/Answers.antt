@@ -16,7 +16,7 @@ put-record-at-requires c κs =
     let s = c .args .system .now in
     let k = c .loop-place .place in
     let below : k < placesOf (tableOf s .size) = omega arith in
-    let long = simp length-append at (ap length (passed-more s k (c .entry-at .result) below (c .entry-at .ensures))) in
+    let long = simp length-append at (ap length (passed-more s k (c .entry-or-zero .result) below (c .entry-or-zero .ensures))) in
     omega (arith, c .loop-place .inv .0, records-within (tableOf s .entries) (k + 1))
 
 pub loop-place-holds : need.loop-place-holds
@@ -29,9 +29,9 @@ pub loop-place-again : need.loop-place-again
 loop-place-again c =
     let s = c .args .system .now in
     let k = c .loop-place .place in
-    let e = c .entry-at .result in
+    let e = c .entry-or-zero .result in
     let below : k < placesOf (tableOf s .size) = omega arith in
-    let more = passed-more s k e below (c .entry-at .ensures) in
+    let more = passed-more s k e below (c .entry-or-zero .ensures) in
     let long = simp length-append at (ap length more) in
     let fits = records-within (tableOf s .entries) (k + 1) in (
       omega (arith, c .loop-place .inv .0, c .put-record-at .ensures .end),

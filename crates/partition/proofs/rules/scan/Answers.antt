@@ -23,7 +23,7 @@ loop-place-again g c =
     let w = g .W·Weigh .weight (c .args .weigher .now) t (map endsOf (c .args .row .now)) in
     let m = c .loop-place .place in
     let o = bestBelow (wideAt t) w m in
-    let seen : c .is-wide .result ≡ wideAt t m = c .is-wide .ensures ∙ ap isWide (c .entry-at .ensures) in
+    let seen : c .is-wide .result ≡ wideAt t m = c .is-wide .ensures ∙ ap isWide (c .entry-or-zero .ensures) in
     subst (λ (n : ℕ). Keeps w (c .if-is-wide .best) (bestBelow (wideAt t) w n)) (sym (add-one m)) (
     elim (c .if-is-wide .came) [
       | then-is-wide v ↦ subst (λ (b : Option Best). Keeps w b (better (wideAt t) w o m)) (sym (v .best-is ∙ v .heavier-best .ensures)) (keeps-wide (wideAt t) w (c .loop-place .best) o m (toZ w64 (ofZ w64 (v .weigh .result))) (sym seen ∙ v .if-is-wide .taken) (toZ-ofZ {w = w64} (record { sfits = v .weigh .ok }) ∙ v .weigh .ensures) (c .loop-place .inv))
