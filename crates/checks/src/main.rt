@@ -1,4 +1,6 @@
 //! Checks the enclosure methods on random systems against corner systems that are solved exactly, and on random narrower systems.
+#![tactic(auto)]
+
 use enclosures::elimination::Elimination;
 use enclosures::enclosure::Enclosure;
 use enclosures::row_sums::RowSums;

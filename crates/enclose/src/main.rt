@@ -1,4 +1,6 @@
 //! Reads a job from standard input and prints an interval for each component of the solutions of its system, in grains.
+#![tactic(auto)]
+
 ghost use Rattle.std.specs.Prelude.{◌≤◌, IfOk};
 
 use enclosures::elimination::Elimination;

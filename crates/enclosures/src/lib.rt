@@ -1,4 +1,6 @@
 //! Methods that enclose the solutions of an interval linear system: for each component an interval, in grains.
+#![tactic(auto)]
+
 pub mod elimination;
 pub mod enclosure;
 pub mod fault;

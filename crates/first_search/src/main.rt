@@ -1,5 +1,7 @@
 //! A first search: one row, [2, 4] with the right side [1, 3]. It prints the reading after the start and after each split, and why the
 //! last split is refused.
+#![tactic(auto)]
+
 use enclosures::elimination::Elimination;
 use outcomes::reading::Reading;
 use outcomes::refusal::SearchRefusal;

@@ -1,4 +1,6 @@
 //! Reads a job from standard input and prints, for each component of the solutions of its system, a figure that it is never below.
+#![tactic(auto)]
+
 ghost use Rattle.std.specs.Prelude.{◌≤◌, IfOk};
 
 use solver::line::find_line;

@@ -1,4 +1,6 @@
 //! A method of a maker's own, as an example: a system of one row is solved by one division, and any other is refused.
+#![tactic(auto)]
+
 ghost use Rattle.own_method.specs.Division.{division_of};
 ghost use Rattle.own_method.specs.Agreement.{division_shaped, division_solvable, division_agreed, division_enclosed, division_narrows};
 

@@ -1,4 +1,6 @@
 //! Prints the jobs of a few systems in hexadecimal, each on a line behind its name, as the writer writes them.
+#![tactic(auto)]
+
 use jobs::writer::write;
 use std::io;
 use systems::draft::Draft;

@@ -1,4 +1,6 @@
 //! Checks random searches against the exact solutions of all corner systems.
+#![tactic(auto)]
+
 use std::io;
 
 mod exact;

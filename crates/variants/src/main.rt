@@ -1,4 +1,6 @@
 //! Runs the reader on a job, on each beginning of it and on each job that differs from it in one byte, and prints how often it gave each answer.
+#![tactic(auto)]
+
 use jobs::reader::read;
 use std::io;
 use systems::draft::Draft;
