@@ -9,42 +9,42 @@ use Rattle.enclosures.proofs.elimination.+solve_from.Goals as goal
 pub returns-then-k-n : goal.returns-then-k-n
 returns-then-k-n t c = eliminated_all c.args.k c.args.n c.args.lines.now c.args.components.now c.if-k-n.true
 
-pub returns-then-contains-zero : goal.returns-then-contains-zero
-returns-then-contains-zero t c =
-    stops-at_pivot c.args.k c.args.n (omega arith) c.requires.few c.args.lines.now c.told-lines c.index-lines-k.result c.index-pivot-k.result (sym c.if-contains-zero.ensures)
+pub returns-then-contains_zero : goal.returns-then-contains_zero
+returns-then-contains_zero t c =
+    stops-at_pivot c.args.k c.args.n (omega arith) c.requires.few c.args.lines.now c.told-lines c.index-lines-k.result c.index-pivot-k.result (sym c.if-contains_zero.ensures)
 
-pub returns-in-err-clear-column : goal.returns-in-err-clear-column
-returns-in-err-clear-column t c =
+pub returns-in_err-clear_column : goal.returns-in_err-clear_column
+returns-in_err-clear_column t c =
     let below : c.args.k < c.args.n = omega arith in
-    let h = rw c.in-err-clear-column.was at c.clear-column.ensures in
+    let h = rw c.in_err-clear_column.was at c.clear_column.ensures in
     let q = err_from_is_err_and c.from-residual.result c.from-residual.ensures.1 in
-    rw (q.1, q.2) (stops_in_column c.args.k c.args.n below c.requires.few c.args.lines.now c.told-lines c.index-lines-k.result c.index-pivot-k.result (sym c.if-contains-zero.ensures) _ h)
+    rw (q.1, q.2) (stops_in_column c.args.k c.args.n below c.requires.few c.args.lines.now c.told-lines c.index-lines-k.result c.index-pivot-k.result (sym c.if-contains_zero.ensures) _ h)
 
-pub returns-in-err-solve-from : goal.returns-in-err-solve-from
-returns-in-err-solve-from t c =
+pub returns-in_err-solve_from : goal.returns-in_err-solve_from
+returns-in_err-solve_from t c =
     let below : c.args.k < c.args.n = omega arith in
-    let h = rw c.in-ok-clear-column.was at c.clear-column.ensures in
-    let i = rw c.in-err-solve-from.was at c.solve-from.ensures in
-    let q = err_from_is_err_and c.from-residual-in-err-solve-from.result c.from-residual-in-err-solve-from.ensures.1 in
-    rw (q.1, q.2) (stops_below c.args.k c.args.n below c.requires.few c.args.lines.now c.told-lines c.index-lines-k.result c.index-pivot-k.result (sym c.if-contains-zero.ensures) (lined (c.args.k + 1) c.args.n c.clear-column.new.lines) h _ i)
+    let h = rw c.in_ok-clear_column.was at c.clear_column.ensures in
+    let i = rw c.in_err-solve_from.was at c.solve_from.ensures in
+    let q = err_from_is_err_and c.from-residual-in_err-solve_from.result c.from-residual-in_err-solve_from.ensures.1 in
+    rw (q.1, q.2) (stops_below c.args.k c.args.n below c.requires.few c.args.lines.now c.told-lines c.index-lines-k.result c.index-pivot-k.result (sym c.if-contains_zero.ensures) (lined (c.args.k + 1) c.args.n c.clear_column.new.lines) h _ i)
 
-pub returns-in-err-components : goal.returns-in-err-components
-returns-in-err-components t c =
+pub returns-in_err-components : goal.returns-in_err-components
+returns-in_err-components t c =
     let below : c.args.k < c.args.n = omega arith in
-    let h = rw c.in-ok-clear-column.was at c.clear-column.ensures in
-    let i = rw c.in-ok-solve-from.was at c.solve-from.ensures in
-    let q = err_from_is_err_and c.from-residual-in-err-components.result c.from-residual-in-err-components.ensures.1 in
-    rw (q.1, q.2) (stops-at_solution c.args.k c.args.n below c.requires.few c.args.lines.now c.told-lines c.index-lines-k.result c.index-pivot-k.result (sym c.if-contains-zero.ensures) (lined (c.args.k + 1) c.args.n c.clear-column.new.lines) h
-    (between (c.args.k + 1) c.args.n (map ends_of c.solve-from.new.components)) _ i (sym c.in-err-components.ensures))
+    let h = rw c.in_ok-clear_column.was at c.clear_column.ensures in
+    let i = rw c.in_ok-solve_from.was at c.solve_from.ensures in
+    let q = err_from_is_err_and c.from-residual-in_err-components.result c.from-residual-in_err-components.ensures.1 in
+    rw (q.1, q.2) (stops-at_solution c.args.k c.args.n below c.requires.few c.args.lines.now c.told-lines c.index-lines-k.result c.index-pivot-k.result (sym c.if-contains_zero.ensures) (lined (c.args.k + 1) c.args.n c.clear_column.new.lines) h
+    (between (c.args.k + 1) c.args.n (map ends_of c.solve_from.new.components)) _ i (sym c.in_err-components.ensures))
 
 pub returns : goal.returns
 returns t c =
     let below : c.args.k < c.args.n = omega arith in
-    let xs = c.solve-from.new.components in
-    let y = c.in-ok-components.field-0 in
-    let long : c.args.n ≤ length xs = omega (arith, c.solve-from.array-long2) in
-    let h = rw c.in-ok-clear-column.was at c.clear-column.ensures in
-    let i = rw c.in-ok-solve-from.was at c.solve-from.ensures in
-    solves c.args.k c.args.n below c.requires.few c.args.lines.now c.told-lines c.index-lines-k.result c.index-pivot-k.result (sym c.if-contains-zero.ensures) (lined (c.args.k + 1) c.args.n c.clear-column.new.lines) h
-    (between (c.args.k + 1) c.args.n (map ends_of xs)) (ends_of y) i (sym c.in-ok-components.ensures)
+    let xs = c.solve_from.new.components in
+    let y = c.in_ok-components.field-0 in
+    let long : c.args.n ≤ length xs = omega (arith, c.solve_from.array-long2) in
+    let h = rw c.in_ok-clear_column.was at c.clear_column.ensures in
+    let i = rw c.in_ok-solve_from.was at c.solve_from.ensures in
+    solves c.args.k c.args.n below c.requires.few c.args.lines.now c.told-lines c.index-lines-k.result c.index-pivot-k.result (sym c.if-contains_zero.ensures) (lined (c.args.k + 1) c.args.n c.clear_column.new.lines) h
+    (between (c.args.k + 1) c.args.n (map ends_of xs)) (ends_of y) i (sym c.in_ok-components.ensures)
     ∙ ap Ok (sym (solution_fronted c.args.k c.args.n xs y below long))

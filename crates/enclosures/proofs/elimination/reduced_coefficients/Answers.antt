@@ -15,7 +15,7 @@ loop-j-preserved c =
     let l = c.loop-j in
     let old = c.args.line.now.coefficients in
     let ps = c.args.pivot.now.coefficients in
-    let z = c.in-ok-coefficients.field-0 in
+    let z = c.in_ok-coefficients.field-0 in
     let from : c.args.k + 1 ≤ l.j = omega arith in
     let below : l.j < c.args.n = omega arith in
     let long : c.args.n ≤ length old = omega (arith, c.args.line.now.full) in
@@ -23,7 +23,7 @@ loop-j-preserved c =
     let long'' : c.args.n ≤ length l.coefficients = omega (arith, l.invariant.0) in (
       simp length-set l.invariant.0,
       viewed_rest ends_of ends_of ends_of (less_multiple (ends_of c.args.m)) old l.coefficients ps (c.args.k + 1) c.args.n l.j z z from below long long' long'' l.invariant.1 l.invariant.2 z,
-      viewed_more ends_of ends_of ends_of (less_multiple (ends_of c.args.m)) old l.coefficients ps (c.args.k + 1) c.args.n l.j c.index-coefficients-j.result c.index-pivot-j.result from below long long' long'' l.invariant.1 l.invariant.2 z (sym c.in-ok-coefficients.ensures),
+      viewed_more ends_of ends_of ends_of (less_multiple (ends_of c.args.m)) old l.coefficients ps (c.args.k + 1) c.args.n l.j c.index-coefficients-j.result c.index-pivot-j.result from below long long' long'' l.invariant.1 l.invariant.2 z (sym c.in_ok-coefficients.ensures),
     )
 
 pub returns : goal.returns
@@ -35,8 +35,8 @@ returns c =
       full = l.invariant.0;
     }
 
-pub returns-in-err-coefficients : goal.returns-in-err-coefficients
-returns-in-err-coefficients c =
+pub returns-in_err-coefficients : goal.returns-in_err-coefficients
+returns-in_err-coefficients c =
     let l = c.loop-j in
     let old = c.args.line.now.coefficients in
     let ps = c.args.pivot.now.coefficients in
@@ -47,6 +47,6 @@ returns-in-err-coefficients c =
     let long'' : c.args.n ≤ length l.coefficients = omega (arith, l.invariant.0) in
     let p = err_from_is_err_and c.from-residual.result c.from-residual.ensures.1 in
     rw (p.1, p.2) record {
-      value = sym (viewed_refused ends_of ends_of ends_of (less_multiple (ends_of c.args.m)) old l.coefficients ps (c.args.k + 1) c.args.n l.j c.index-coefficients-j.result c.index-pivot-j.result from below long long' long'' l.invariant.1 l.invariant.2 _ (sym c.in-err-coefficients.ensures));
+      value = sym (viewed_refused ends_of ends_of ends_of (less_multiple (ends_of c.args.m)) old l.coefficients ps (c.args.k + 1) c.args.n l.j c.index-coefficients-j.result c.index-pivot-j.result from below long long' long'' l.invariant.1 l.invariant.2 _ (sym c.in_err-coefficients.ensures));
       full = tt;
     }

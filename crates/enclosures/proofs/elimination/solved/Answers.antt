@@ -9,7 +9,7 @@ returns c =
     let e = solved_viewed c.args.k c.args.n c.requires.below c.requires.few c.args.pivot.now c.index-pivot-k.result (between (c.args.k + 1) c.args.n (map ends_of c.args.components.now)) in
     search rules
 
-pub returns-in-err-less-products : goal.returns-in-err-less-products
-returns-in-err-less-products c =
+pub returns-in_err-less_products : goal.returns-in_err-less_products
+returns-in_err-less_products c =
     let e = solved_viewed c.args.k c.args.n c.requires.below c.requires.few c.args.pivot.now c.args.pivot.now.right (between (c.args.k + 1) c.args.n (map ends_of c.args.components.now)) in
     search rules

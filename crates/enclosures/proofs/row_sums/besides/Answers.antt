@@ -13,5 +13,5 @@ returns-else-j-i c =
     let t = table_of c.args.system.now in
     let i = c.args.i in
     let j = c.args.j in
-    let read = c.entry-or-zero.ensures ∙ ap (λ n. ends_at t (i * (n + 1) + j)) c.size.ensures.value in
+    let read = c.entry_or_zero.ensures ∙ ap (λ n. ends_at t (i * (n + 1) + j)) c.size.ensures.value in
     record { value = omega (arith, ints) ∙ c.magnitude-size.ensures.value ∙ ap magnitude read ∙ besides_other t i j c.if-j-i.false; small = omega (arith, ints) }

@@ -9,7 +9,7 @@ pub loop-j-init : goal.loop-j-init
 loop-j-init c =
     let t = table_of c.args.system.now in
     let i = c.args.i in
-    let read = c.entry-or-zero.ensures ∙ ap (λ n. ends_at t (i * (n + 1) + i)) c.size-n.ensures.value in
+    let read = c.entry_or_zero.ensures ∙ ap (λ n. ends_at t (i * (n + 1) + i)) c.size-n.ensures.value in
     (part_none t i _ (omega (arith, ints) ∙ c.mignitude-g.ensures.value ∙ ap mignitude read), omega (arith, ints))
 
 pub loop-j-preserved : goal.loop-j-preserved

@@ -17,8 +17,8 @@ pub loop-i-preserved : goal.loop-i-preserved
 loop-i-preserved c =
     let t = table_of c.args.system.now in
     let l = c.loop-i in
-    let next = c.in-ok-next.next in
-    let made = c.in-ok-next.ensures in
+    let next = c.in_ok-next.next in
+    let made = c.in_ok-next.ensures in
     let below : l.i < t.size = omega (arith, c.size-i-end.ensures.value) in
     let so_far = l.invariant.0 ∙ ap (λ a. reach (bound_of t) a (range_with_len l.i (t.size - l.i))) l.alpha-is in
     let is : back c.max-alpha.result ≡ int_max l.alpha next = omega (arith, ints, clamps) in
@@ -32,12 +32,12 @@ returns c =
     let end : l.i ≡ t.size = omega (arith, c.size-i-end.ensures.value) in
     record { value = sym (l.invariant.0 ∙ reach_all (bound_of t) _ l.i t.size end); small = l.invariant.1 }
 
-pub returns-in-err-next : goal.returns-in-err-next
+pub returns-in_err-next : goal.returns-in_err-next
 unfolding greatest_bound
-returns-in-err-next c =
+returns-in_err-next c =
     let t = table_of c.args.system.now in
     let l = c.loop-i in
     let below : l.i < t.size = omega (arith, c.size-i-end.ensures.value) in
-    let stops = l.invariant.0 ∙ reach_refused (bound_of t) _ l.i t.size c.in-err-next.field-0.0 below (sym c.in-err-next.ensures.value) in
+    let stops = l.invariant.0 ∙ reach_refused (bound_of t) _ l.i t.size c.in_err-next.field-0.0 below (sym c.in_err-next.ensures.value) in
     let q = err_from_is_err_and c.from-residual.result c.from-residual.ensures.1 in
     rw (q.1, q.2) record { value = sym stops; small = tt }

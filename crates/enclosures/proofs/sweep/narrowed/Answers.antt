@@ -13,8 +13,8 @@ returns-in-Ok c =
     let n = c.args.n in
     let x = c.index-components-i.result in
     let long : n ≤ length xs = search rules in
-    narrowed_ok (get_or xs i x) c.in-Ok.new c.unwrap-or.result c.common.result (component_of (take n (map ends_of xs)) i) (solved_for (viewed 0 n c.args.line.now) i (take n (map ends_of xs)))
-    (component_taken xs i n x c.requires.below long) c.in-Ok.ensures c.common.ensures c.unwrap-or.ensures
+    narrowed_ok (get_or xs i x) c.in-Ok.new c.unwrap_or.result c.common.result (component_of (take n (map ends_of xs)) i) (solved_for (viewed 0 n c.args.line.now) i (take n (map ends_of xs)))
+    (component_taken xs i n x c.requires.below long) c.in-Ok.ensures c.common.ensures c.unwrap_or.ensures
 
 pub returns-in-Err : goal.returns-in-Err
 returns-in-Err c =

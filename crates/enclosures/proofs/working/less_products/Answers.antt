@@ -11,7 +11,7 @@ loop-j-preserved c =
     let xs = c.args.components.now in
     let long : c.args.to ≤ length cs = omega (arith, c.args.line.now.full) in
     let long' : c.args.to ≤ length xs = search rules in
-    l.invariant ∙ products_more (ends_of l.rest) cs xs l.j c.args.to c.index-line-j.result c.index-components-j.result (omega arith) long long' (ends_of c.in-ok-rest.rest) c.in-ok-rest.ensures
+    l.invariant ∙ products_more (ends_of l.rest) cs xs l.j c.args.to c.index-line-j.result c.index-components-j.result (omega arith) long long' (ends_of c.in_ok-rest.rest) c.in_ok-rest.ensures
 
 pub returns : goal.returns
 returns c =
@@ -19,13 +19,13 @@ returns c =
     let end : l.j ≡ c.args.to = omega arith in
     sym (rw end at l.invariant ∙ products_all (ends_of l.rest) c.args.line.now.coefficients c.args.components.now c.args.to)
 
-pub returns-in-err-rest : goal.returns-in-err-rest
-returns-in-err-rest c =
+pub returns-in_err-rest : goal.returns-in_err-rest
+returns-in_err-rest c =
     let l = c.loop-j in
     let cs = c.args.line.now.coefficients in
     let xs = c.args.components.now in
     let long : c.args.to ≤ length cs = omega (arith, c.args.line.now.full) in
     let long' : c.args.to ≤ length xs = search rules in
-    let stops = l.invariant ∙ products_refused (ends_of l.rest) cs xs l.j c.args.to c.index-line-j.result c.index-components-j.result (omega arith) long long' _ c.in-err-rest.ensures in
+    let stops = l.invariant ∙ products_refused (ends_of l.rest) cs xs l.j c.args.to c.index-line-j.result c.index-components-j.result (omega arith) long long' _ c.in_err-rest.ensures in
     let q = err_from_is_err_and c.from-residual.result c.from-residual.ensures.1 in
     rw (q.1, q.2) (sym stops)

@@ -10,8 +10,8 @@ loop-j-preserved c =
     let l = c.loop-j in
     let t = table_of c.args.system.now in
     let h : l.j < length l.coefficients = omega (arith, l.invariant.0) in
-    let made : ends_of c.in-grains-at.result ≡ working_at t c.args.i l.j = c.in-grains-at.ensures ∙ ap (λ n. in_grains (ends_at t (c.args.i * (n + 1) + l.j))) c.size-n.ensures.value in
-    (simp length-set l.invariant.0, filled_more ends_of (working_at t c.args.i) l.coefficients l.j c.in-grains-at.result h made l.invariant.1)
+    let made : ends_of c.in_grains_at.result ≡ working_at t c.args.i l.j = c.in_grains_at.ensures ∙ ap (λ n. in_grains (ends_at t (c.args.i * (n + 1) + l.j))) c.size-n.ensures.value in
+    (simp length-set l.invariant.0, filled_more ends_of (working_at t c.args.i) l.coefficients l.j c.in_grains_at.result h made l.invariant.1)
 
 pub returns : goal.returns
 unfolding row_of
@@ -21,5 +21,5 @@ returns c =
     let size = c.size-n.ensures.value in
     let end : l.j ≡ t.size = omega arith in
     let front = filled_all ends_of (working_at t c.args.i) l.coefficients t.size (rw end at l.invariant.1) in
-    let right : ends_of c.in-grains-at-2.result ≡ working_at t c.args.i t.size = c.in-grains-at-2.ensures ∙ ap (λ n. in_grains (ends_at t (c.args.i * (n + 1) + n))) size in
+    let right : ends_of c.in_grains_at-2.result ≡ working_at t c.args.i t.size = c.in_grains_at-2.ensures ∙ ap (λ n. in_grains (ends_at t (c.args.i * (n + 1) + n))) size in
     λ i. record { coefficients = front i; right = right i }

@@ -8,4 +8,4 @@ pub returns : goal.returns
 returns c =
     let was = c.args.buffer.now in
     let at = c.args.at in
-    subst (λ (n : ℕ). put_mid at (at + n - at) was c.copy-from-slice.new.self ≡ overwritten was at c.args.bytes.now) c.told-bytes (put_over was at c.args.bytes.now c.copy-from-slice.new.self c.copy-from-slice.ensures.after)
+    subst (λ (n : ℕ). put_mid at (at + n - at) was c.copy_from_slice.new.self ≡ overwritten was at c.args.bytes.now) c.told-bytes (put_over was at c.args.bytes.now c.copy_from_slice.new.self c.copy_from_slice.ensures.after)

@@ -2,9 +2,9 @@ use Rattle.std.proofs.Common.{rules}
 use Rattle.jobs.specs.Reading.{entered}
 use Rattle.jobs.proofs.reader.enter.Goals as goal
 
-pub returns-in-err-set : goal.returns-in-err-set
+pub returns-in_err-set : goal.returns-in_err-set
 unfolding entered
-returns-in-err-set c = search rules
+returns-in_err-set c = search rules
 
 pub returns-then-high-eq0 : goal.returns-then-high-eq0
 unfolding entered

@@ -12,4 +12,4 @@ loop-reader-init c = (refl, refl, omega arith)
 pub returns : goal.returns
 returns c =
     let made = c.loop-reader.invariant.0 ∙ ended c.loop-reader.reader (drafted c.loop-reader.fresh) (sym c.loop-reader-test.ensures) in
-    record { value = made; written-again = written-parsed c.args.job.now (drafted c.loop-reader.fresh) (λ k. let f = c.type-inv.job k in omega arith) made }
+    record { value = made; written_again = written-parsed c.args.job.now (drafted c.loop-reader.fresh) (λ k. let f = c.type_inv.job k in omega arith) made }

@@ -5,15 +5,15 @@ use Rattle.jobs.specs.Writing.{overwritten, record_of}
 use Rattle.jobs.proofs.Records.{records_within, places_small, overwritten_none, overwritten_more, passed, passed_none, passed_more, passed_all}
 use Rattle.jobs.proofs.writer.put_records.Goals as goal
 
-pub overflow-cast-place : goal.overflow-cast-place
-overflow-cast-place c = let few = places_small c.args.system.now in omega arith
+pub overflow_cast-place : goal.overflow_cast-place
+overflow_cast-place c = let few = places_small c.args.system.now in omega arith
 
-pub put-record-at-requires : goal.put-record-at-requires
-put-record-at-requires c =
+pub put_record-at-requires : goal.put_record-at-requires
+put_record-at-requires c =
     let s = c.args.system.now in
     let k = c.loop-place.place in
     let below : k < places_of (table_of s).size = omega arith in
-    let long = simp length-append at (ap length (passed_more s k c.entry-or-zero.result below c.entry-or-zero.ensures)) in
+    let long = simp length-append at (ap length (passed_more s k c.entry_or_zero.result below c.entry_or_zero.ensures)) in
     omega (arith, c.loop-place.invariant.0, records_within (table_of s).entries (k + 1))
 
 pub loop-place-init : goal.loop-place-init
@@ -26,13 +26,13 @@ pub loop-place-preserved : goal.loop-place-preserved
 loop-place-preserved c =
     let s = c.args.system.now in
     let k = c.loop-place.place in
-    let e = c.entry-or-zero.result in
+    let e = c.entry_or_zero.result in
     let below : k < places_of (table_of s).size = omega arith in
-    let more = passed_more s k e below c.entry-or-zero.ensures in
+    let more = passed_more s k e below c.entry_or_zero.ensures in
     let long = simp length-append at (ap length more) in
     let fits = records_within (table_of s).entries (k + 1) in (
-      omega (arith, c.loop-place.invariant.0, c.put-record-at.ensures.end),
-      c.put-record-at.ensures.bytes
+      omega (arith, c.loop-place.invariant.0, c.put_record-at.ensures.end),
+      c.put_record-at.ensures.bytes
           ∙ (λ i. overwritten (c.loop-place.invariant.1 i) (c.loop-place.invariant.0 i) (record_of k (ends_of e)))
           ∙ overwritten_more c.args.buffer.now c.args.from (passed s k) (record_of k (ends_of e)) (omega (arith, c.requires))
           ∙ ap (overwritten c.args.buffer.now c.args.from) (sym more),

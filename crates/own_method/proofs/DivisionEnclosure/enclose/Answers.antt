@@ -19,13 +19,13 @@ returns c =
     let t = table_of c.args.system.now in
     let one : t.size ≡ 1 = search rules in
     let some : 0 < length c.args.row.now = search rules in
-    let q : quotient_of (in_grains (ends_at t 1)) (in_grains (ends_at t 0)) ≡ Ok (ends_of c.in-ok-row.field-0) = search rules in
-    encloses_one (division_of t) c.args.row.now c.in-ok-row.field-0 some (divides t (ends_of c.in-ok-row.field-0) one q)
+    let q : quotient_of (in_grains (ends_at t 1)) (in_grains (ends_at t 0)) ≡ Ok (ends_of c.in_ok-row.field-0) = search rules in
+    encloses_one (division_of t) c.args.row.now c.in_ok-row.field-0 some (divides t (ends_of c.in_ok-row.field-0) one q)
 
-pub returns-in-err-row : goal.returns-in-err-row
-returns-in-err-row c =
+pub returns-in_err-row : goal.returns-in_err-row
+returns-in_err-row c =
     let t = table_of c.args.system.now in
     let one : t.size ≡ 1 = search rules in
-    let q : quotient_of (in_grains (ends_at t 1)) (in_grains (ends_at t 0)) ≡ Err c.in-err-row.field-0.0 = search rules in
+    let q : quotient_of (in_grains (ends_at t 1)) (in_grains (ends_at t 0)) ≡ Err c.in_err-row.field-0.0 = search rules in
     let r = err_from_is_err_and c.from-residual.result c.from-residual.ensures.1 in
-    encloses_fault (division_of t) r.0 c.from-residual.result c.args.row.now (stops t c.in-err-row.field-0.0 one q ∙ ap Err (sym r.2)) r.1
+    encloses_fault (division_of t) r.0 c.from-residual.result c.args.row.now (stops t c.in_err-row.field-0.0 one q ∙ ap Err (sym r.2)) r.1

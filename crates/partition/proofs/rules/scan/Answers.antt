@@ -7,7 +7,7 @@ use Rattle.systems.specs.Tables.{table_of}
 use Rattle.partition.specs.Choosing.{wide_at, better, best_below}
 use Rattle.partition.specs.Scans.{keeps_wide, keeps_thin}
 use Rattle.partition.proofs.rules.scan.Goals as goal
-use Rattle.partition.proofs.rules.scan.Goals.{then-is-wide, else-is-wide}
+use Rattle.partition.proofs.rules.scan.Goals.{then-is_wide, else-is_wide}
 
 pub loop-place-preserved : goal.loop-place-preserved
 loop-place-preserved g c =
@@ -15,9 +15,9 @@ loop-place-preserved g c =
     let w = g.W.Weigh.weight c.args.weigher.now t (map ends_of c.args.row.now) in
     let m = c.loop-place.place in
     let o = best_below (wide_at t) w m in
-    let seen : c.is-wide.result ≡ wide_at t m = c.is-wide.ensures ∙ ap is_wide c.entry-or-zero.ensures in
-    subst (λ (n : ℕ). Keeps w c.if-is-wide.best (best_below (wide_at t) w n)) (sym (add-one m)) (
-    elim c.if-is-wide.branch [
-      | then-is-wide v ↦ subst (λ (b : Option Best). Keeps w b (better (wide_at t) w o m)) (sym (v.best-is ∙ v.heavier-best.ensures)) (keeps_wide (wide_at t) w c.loop-place.best o m (to_z w64 (of_z w64 v.weigh.result)) (sym seen ∙ v.if-is-wide.true) (to_z-of_z {w = w64} (record { sfits = v.weigh.type-inv }) ∙ v.weigh.ensures) c.loop-place.invariant)
-      | else-is-wide v ↦ subst (λ (b : Option Best). Keeps w b (better (wide_at t) w o m)) (sym v.best-is) (keeps_thin (wide_at t) w c.loop-place.best o m (sym seen ∙ v.if-is-wide.false) c.loop-place.invariant)
+    let seen : c.is_wide.result ≡ wide_at t m = c.is_wide.ensures ∙ ap is_wide c.entry_or_zero.ensures in
+    subst (λ (n : ℕ). Keeps w c.if-is_wide.best (best_below (wide_at t) w n)) (sym (add-one m)) (
+    elim c.if-is_wide.branch [
+      | then-is_wide v ↦ subst (λ (b : Option Best). Keeps w b (better (wide_at t) w o m)) (sym (v.best-is ∙ v.heavier-best.ensures)) (keeps_wide (wide_at t) w c.loop-place.best o m (to_z w64 (of_z w64 v.weigh.result)) (sym seen ∙ v.if-is_wide.true) (to_z-of_z {w = w64} (record { sfits = v.weigh.type_inv }) ∙ v.weigh.ensures) c.loop-place.invariant)
+      | else-is_wide v ↦ subst (λ (b : Option Best). Keeps w b (better (wide_at t) w o m)) (sym v.best-is) (keeps_thin (wide_at t) w c.loop-place.best o m (sym seen ∙ v.if-is_wide.false) c.loop-place.invariant)
     ])

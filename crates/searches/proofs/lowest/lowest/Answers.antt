@@ -10,24 +10,24 @@ use Rattle.searches.specs.Lowest.{Holds, NeverBelow, itself, solved_of, lowest_o
 use Rattle.searches.proofs.Using.{lowest_refused}
 use Rattle.searches.proofs.lowest.lowest.Goals as goal
 
-pub returns-in-err-report : goal.returns-in-err-report
+pub returns-in_err-report : goal.returns-in_err-report
 unfolding lowest_of
-returns-in-err-report g c =
+returns-in_err-report g c =
     let q = err_from_is_err_and c.from-residual.result c.from-residual.ensures.1 in
     let t = table_of c.args.system in
     let is = q.1 ∙ ap (λ (d : NoFigure). Err d) q.2 in
     record {
-      value = lowest_refused (solved_of (g.M.Enclosure.meaning c.args.method) (g.R.Rule.answer c.args.rule) t c.args.component c.args.budget) c.in-err-report.field-0.0 c.from-residual.result is c.in-err-report.ensures.value;
+      value = lowest_refused (solved_of (g.M.Enclosure.meaning c.args.method) (g.R.Rule.answer c.args.rule) t c.args.component c.args.budget) c.in_err-report.field-0.0 c.from-residual.result is c.in_err-report.ensures.value;
       holds = subst (λ (o : Result ℤ NoFigure). Holds itself o t c.args.component) (sym is) tt;
     }
 
 pub returns : goal.returns
 unfolding lowest_of
 returns g c =
-    let x = c.in-ok-report.report in
+    let x = c.in_ok-report.report in
     let fits : SFits w64 x.reading.low = search rules in
     let back = to_z-of_z w64 x.reading.low fits in
-    let done = c.in-ok-report.ensures in
+    let done = c.in_ok-report.ensures in
     record {
       value = ap (λ (z : Result Report SearchRefusal). and_then z (λ y. Ok y.reading.low)) done.value ∙ ap (λ (w : ℤ). Ok w) (sym back);
       holds = subst (λ (w : ℤ). NeverBelow (table_of c.args.system) c.args.component w) (sym back) done.holds;

@@ -12,16 +12,16 @@ use Rattle.searches.specs.States.{state_of}
 use Rattle.searches.proofs.Using.{solved_refused, solved_made, solved_holds}
 use Rattle.searches.proofs.lowest.solve.Goals as goal
 
-pub returns-in-err-start : goal.returns-in-err-start
-returns-in-err-start g c =
-    let made = c.in-ok-search.ensures in
-    let q = err_from_is_err_and c.from-residual-in-err-start.result c.from-residual-in-err-start.ensures.1 in
-    let e = c.in-err-start.field-0.0 in
+pub returns-in_err-start : goal.returns-in_err-start
+returns-in_err-start g c =
+    let made = c.in_ok-search.ensures in
+    let q = err_from_is_err_and c.from-residual-in_err-start.result c.from-residual-in_err-start.ensures.1 in
+    let e = c.in_err-start.field-0.0 in
     let v = g.M.Enclosure.meaning c.args.method in
     let r = g.R.Rule.answer c.args.rule in
     let t = table_of c.args.system in
-    let refused = c.in-err-start.ensures.outcome ∙ (λ i. step (g.M.Enclosure.meaning (made.2 i)) (g.R.Rule.answer (made.3 i)) (table_of (made.1 i)) (start c.args.component) (made.0 i)) in
-    let is : c.from-residual-in-err-start.result ≡ Err (Refused e) = q.1 ∙ ap Err q.2 in
+    let refused = c.in_err-start.ensures.outcome ∙ (λ i. step (g.M.Enclosure.meaning (made.2 i)) (g.R.Rule.answer (made.3 i)) (table_of (made.1 i)) (start c.args.component) (made.0 i)) in
+    let is : c.from-residual-in_err-start.result ≡ Err (Refused e) = q.1 ∙ ap Err q.2 in
     record {
       value = subst (λ (o : Result Report NoFigure). Answers o (solved_of v r t c.args.component c.args.budget)) (sym is) (solved_refused v r t c.args.component c.args.budget e (state_of c.start.new.self) refused);
       holds = subst (λ (o : Result Report NoFigure). Holds low_in o t c.args.component) (sym is) tt;
@@ -32,10 +32,10 @@ returns g c =
     let v = g.M.Enclosure.meaning c.args.method in
     let r = g.R.Rule.answer c.args.rule in
     let t = table_of c.args.system in
-    let made = c.in-ok-search.ensures in
-    let one = c.in-ok-start.ensures in
-    let two = c.in-ok-report.ensures in
-    let last = c.in-ok-reading.ensures in
+    let made = c.in_ok-search.ensures in
+    let one = c.in_ok-start.ensures in
+    let two = c.in_ok-report.ensures in
+    let last = c.in_ok-reading.ensures in
     let system = one.same.system ∙ made.1 in
     let method = one.same.method ∙ made.2 in
     let rule = one.same.rule ∙ made.3 in
@@ -44,9 +44,9 @@ returns g c =
     let rule' = two.same.rule ∙ rule in
     let st = state_of c.start.new.self in
     let st' = state_of c.run.new.self in
-    let x = c.in-ok-start.field-0 in
-    let z = c.in-ok-report.report in
-    let y = c.in-ok-reading.reading in
+    let x = c.in_ok-start.field-0 in
+    let z = c.in_ok-report.report in
+    let y = c.in_ok-reading.reading in
     let started = one.outcome ∙ (λ i. step (g.M.Enclosure.meaning (made.2 i)) (g.R.Rule.answer (made.3 i)) (table_of (made.1 i)) (start c.args.component) (made.0 i)) in
     let ran = two.outcome ∙ (λ i. step (g.M.Enclosure.meaning (method i)) (g.R.Rule.answer (rule i)) (table_of (system i)) (run c.args.budget) st) in
     let read' = last.outcome ∙ (λ i. step (g.M.Enclosure.meaning (method' i)) (g.R.Rule.answer (rule' i)) (table_of (system' i)) read st') in

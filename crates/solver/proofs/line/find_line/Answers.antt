@@ -9,4 +9,4 @@ use Rattle.solver.proofs.line.find_line.Goals as goal
 
 pub returns : goal.returns
 unfolding line_of
-returns c = ap (λ (o : Outcome). let l : Line = record { component = c.args.component; outcome = o } in l) (said c.find-found.result (found_for (table_of c.args.system) c.args.component 100) c.in-ok-outcome.outcome c.in-ok-outcome.ensures c.find-found.ensures.value)
+returns c = ap (λ (o : Outcome). let l : Line = record { component = c.args.component; outcome = o } in l) (said c.find-found.result (found_for (table_of c.args.system) c.args.component 100) c.in_ok-outcome.outcome c.in_ok-outcome.ensures c.find-found.ensures.value)

@@ -8,7 +8,7 @@ use Rattle.enclosures.proofs.elimination.EliminationEnclosure.enclose.Goals as g
 pub loop-i-preserved : goal.loop-i-preserved
 loop-i-preserved c =
     let l = c.loop-i in
-    let xs = c.solve-from.new.components in
+    let xs = c.solve_from.new.components in
     let was = c.args.row.now in
     let h : l.i < length xs = omega (arith, l.invariant.0) in
     let k : l.i < length was = search rules in
@@ -19,17 +19,17 @@ returns c =
     let l = c.loop-i in
     let t = table_of c.args.system.now in
     let n = c.size-n.result in
-    let xs = c.solve-from.new.components in
+    let xs = c.solve_from.new.components in
     let was = c.args.row.now in
     let end : l.i ≡ n = omega arith in
     let long : n ≤ length xs = omega (arith, l.invariant.0) in
     let copied : l.row ≡ take n xs ++ drop n was = rw end at l.invariant.1 in
-    encloses_row (elimination_of t) n xs was l.row long (verdict_row t n c.lines.result c.size-n.ensures.value c.lines.ensures xs c.in-ok-solve-from.ensures) copied
+    encloses_row (elimination_of t) n xs was l.row long (verdict_row t n c.lines.result c.size-n.ensures.value c.lines.ensures xs c.in_ok-solve_from.ensures) copied
 
-pub returns-in-err-solve-from : goal.returns-in-err-solve-from
-returns-in-err-solve-from c =
+pub returns-in_err-solve_from : goal.returns-in_err-solve_from
+returns-in_err-solve_from c =
     let t = table_of c.args.system.now in
     let n = c.size-n.result in
     let q = err_from_is_err_and c.from-residual.result c.from-residual.ensures.1 in
-    let stopped = verdict_fault t n c.lines.result c.size-n.ensures.value c.lines.ensures c.in-err-solve-from.field-0.0 c.in-err-solve-from.ensures in
+    let stopped = verdict_fault t n c.lines.result c.size-n.ensures.value c.lines.ensures c.in_err-solve_from.field-0.0 c.in_err-solve_from.ensures in
     encloses_fault (elimination_of t) q.0 c.from-residual.result c.args.row.now (stopped ∙ ap Err (sym q.2)) q.1

@@ -3,17 +3,17 @@ use Rattle.grains.specs.Arithmetic.{ends_of, product_of}
 use Rattle.grains.proofs.Sizes.{least_product_small, greatest_product_small, products_ordered}
 use Rattle.grains.proofs.interval.Interval.product.Goals as goal
 
-pub floor-div-requires : goal.floor-div-requires
-floor-div-requires c = record { nonzero = lit< tt; fits = least_product_small c.args.self c.args.other c.least-product-least.result c.least-product-least.ensures; by_fits = lit< tt }
+pub floor_div-requires : goal.floor_div-requires
+floor_div-requires c = record { nonzero = lit< tt; fits = least_product_small c.args.self c.args.other c.least_product-least.result c.least_product-least.ensures; by_fits = lit< tt }
 
-pub ceil-div-requires : goal.ceil-div-requires
-ceil-div-requires c = record { nonzero = lit< tt; fits = greatest_product_small c.args.self c.args.other c.greatest-product-greatest.result c.greatest-product-greatest.ensures; by_fits = lit< tt }
+pub ceil_div-requires : goal.ceil_div-requires
+ceil_div-requires c = record { nonzero = lit< tt; fits = greatest_product_small c.args.self c.args.other c.greatest_product-greatest.result c.greatest_product-greatest.ensures; by_fits = lit< tt }
 
-pub in-span-requires : goal.in-span-requires
-in-span-requires c =
-    products_ordered (ends_of c.args.self) (ends_of c.args.other) c.least-product-least.result c.greatest-product-greatest.result c.floor-div.result c.ceil-div.result
-    c.least-product-least.type-inv c.greatest-product-greatest.type-inv c.floor-div.type-inv c.ceil-div.type-inv
-    c.least-product-least.ensures c.greatest-product-greatest.ensures c.floor-div.ensures.value c.ceil-div.ensures
+pub in_span-requires : goal.in_span-requires
+in_span-requires c =
+    products_ordered (ends_of c.args.self) (ends_of c.args.other) c.least_product-least.result c.greatest_product-greatest.result c.floor_div.result c.ceil_div.result
+    c.least_product-least.type_inv c.greatest_product-greatest.type_inv c.floor_div.type_inv c.ceil_div.type_inv
+    c.least_product-least.ensures c.greatest_product-greatest.ensures c.floor_div.ensures.value c.ceil_div.ensures
 
 pub returns : goal.returns
 unfolding product_of

@@ -4,8 +4,8 @@ use Rattle.grains.specs.Arithmetic.{times, Figure}
 use Rattle.grains.proofs.Sizes.{back, times_small}
 use Rattle.grains.proofs.interval.operations.multiply.Goals as goal
 
-pub overflow-mul-result : goal.overflow-mul-result
-overflow-mul-result c =
+pub overflow_mul-result : goal.overflow_mul-result
+overflow_mul-result c =
     let p : Figure (back c.args.a) = record { above = omega (arith, ints); below = omega (arith, ints) } in
     let q : Figure (back c.args.b) = record { above = omega (arith, ints); below = omega (arith, ints) } in
     omega (arith, ints, times_small (back c.args.a) (back c.args.b) p q)

@@ -6,28 +6,28 @@ use Rattle.jobs.specs.Reading.{byte_at}
 use Rattle.jobs.proofs.Progress.{front, refused, size_fits, entry_fits, end_fits, stands_onward, size_walked, entry_walked, end_walked}
 use Rattle.jobs.proofs.reader.Reader.record.Goals as goal
 
-pub returns-in-err-next : goal.returns-in-err-next
-returns-in-err-next c =
-    let was = c.in-err-next.was in
-    let f : front c.args.self.now (drafted c.args.draft.now) ≡ Err c.in-err-next.field-0.0 = cc in
-    let k = refused c.args.self.now (drafted c.args.draft.now) c.in-err-next.field-0.0 c.requires.open f in
+pub returns-in_err-next : goal.returns-in_err-next
+returns-in_err-next c =
+    let was = c.in_err-next.was in
+    let f : front c.args.self.now (drafted c.args.draft.now) ≡ Err c.in_err-next.field-0.0 = cc in
+    let k = refused c.args.self.now (drafted c.args.draft.now) c.in_err-next.field-0.0 c.requires.open f in
     search rules
 
 pub size-requires : goal.size-requires
 size-requires c =
-    let was = c.in-ok-next.was in
+    let was = c.in_ok-next.was in
     let f : front c.args.self.now (drafted c.args.draft.now) ≡ Ok Size = cc in
     size_fits c.args.self.now (drafted c.args.draft.now) c.requires.within f
 
 pub entry-requires : goal.entry-requires
 entry-requires c =
-    let was = c.in-ok-next.was in
+    let was = c.in_ok-next.was in
     let f : front c.args.self.now (drafted c.args.draft.now) ≡ Ok Entry = cc in
     entry_fits c.args.self.now (drafted c.args.draft.now) c.requires.within f
 
 pub returns-in-Size : goal.returns-in-Size
 returns-in-Size c =
-    let was = c.in-ok-next.was in
+    let was = c.in_ok-next.was in
     let f : front c.args.self.now (drafted c.args.draft.now) ≡ Ok Size = cc in
     let fits = size_fits c.args.self.now (drafted c.args.draft.now) c.requires.within f in
     record {
@@ -38,7 +38,7 @@ returns-in-Size c =
 
 pub returns-in-Entry : goal.returns-in-Entry
 returns-in-Entry c =
-    let was = c.in-ok-next.was in
+    let was = c.in_ok-next.was in
     let f : front c.args.self.now (drafted c.args.draft.now) ≡ Ok Entry = cc in
     let fits = entry_fits c.args.self.now (drafted c.args.draft.now) c.requires.within f in
     record {
@@ -50,7 +50,7 @@ returns-in-Entry c =
 
 pub returns-in-End : goal.returns-in-End
 returns-in-End c =
-    let was = c.in-ok-next.was in
+    let was = c.in_ok-next.was in
     let f : front c.args.self.now (drafted c.args.draft.now) ≡ Ok End = cc in
     let fits = end_fits c.args.self.now (drafted c.args.draft.now) c.requires.within f in
     record {

@@ -21,7 +21,7 @@ returns-in-Some g c =
     let laws = g.met.M.Enclosure in
     let owed = g.met.R.Rule in
     record {
-      outcome = subst (λ (z : State). (reading c.reading-of.result, z) ≡ step v r t read z) (sym started) (λ i. (reading (c.reading-of.ensures i), Some s));
-      promise = λ h reached. subst (λ (x : Reading). Kept v r t h x) (sym c.reading-of.ensures)
+      outcome = subst (λ (z : State). (reading c.reading_of.result, z) ≡ step v r t read z) (sym started) (λ i. (reading (c.reading_of.ensures i), Some s));
+      promise = λ h reached. subst (λ (x : Reading). Kept v r t h x) (sym c.reading_of.ensures)
           (promise v r t (table_proper own.system) (laws.solvable m) (laws.agreed m) (laws.enclosed m) (laws.narrowing m) (owed.place n) s h (subst (λ (z : State). Reached v r t h z) started reached));
     }

@@ -7,7 +7,7 @@ use Rattle.searches.proofs.Calls.{replaced_made}
 use Rattle.searches.proofs.search.methods.replace.Goals as goal
 
 pub put-requires-2 : goal.put-requires-2
-put-requires-2 c = simp (c.put.ensures, length-append) (let room = c.remove-leading.ensures.room in omega arith)
+put-requires-2 c = simp (c.put.ensures, length-append) (let room = c.remove_leading.ensures.room in omega arith)
 
 pub returns : goal.returns
 returns c =
@@ -16,7 +16,7 @@ returns c =
     let a : SFits w64 c.args.progress.high = search rules in
     let b : SFits w64 c.args.halves.low.high = search rules in
     let d : SFits w64 c.args.halves.high.high = search rules in
-    replaced_made c.args.progress (items_of c.args.waiting.now) (items_of c.drop-above.new.self) c.args.halves.low c.args.halves.high (to_z w64 (of_z w64 high)) c.saturating-add.result
+    replaced_made c.args.progress (items_of c.args.waiting.now) (items_of c.drop_above.new.self) c.args.halves.low c.args.halves.high (to_z w64 (of_z w64 high)) c.saturating_add.result
     (to_z-of_z w64 high fits ∙ c.least-high.ensures ∙ (λ i. int_min (int_min (to_z-of_z w64 c.args.progress.high a i) (to_z-of_z w64 c.args.halves.low.high b i)) (to_z-of_z w64 c.args.halves.high.high d i)))
-    (c.drop-above.ensures ∙ ap (kept_below (to_z w64 (of_z w64 high))) (c.put-2.ensures ∙ ap (λ xs. xs ++ c.args.halves.high.waiting ∷ []) (c.put.ensures ∙ ap (λ xs. xs ++ c.args.halves.low.waiting ∷ []) c.remove-leading.ensures.items)))
-    c.saturating-add.ensures
+    (c.drop_above.ensures ∙ ap (kept_below (to_z w64 (of_z w64 high))) (c.put-2.ensures ∙ ap (λ xs. xs ++ c.args.halves.high.waiting ∷ []) (c.put.ensures ∙ ap (λ xs. xs ++ c.args.halves.low.waiting ∷ []) c.remove_leading.ensures.items)))
+    c.saturating_add.ensures

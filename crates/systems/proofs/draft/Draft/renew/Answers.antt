@@ -9,5 +9,5 @@ returns-then-size-lt1 c = search rules
 
 pub returns : goal.returns
 returns c =
-    accepted_size c.args.size c.if-size-lt1.false c.if-size-gt-MOST-ROWS.false
-    ∙ ap Ok (sym (blank-tabled c.args.size c.zero.result c.if-size-gt-MOST-ROWS.false c.zero.ensures))
+    accepted_size c.args.size c.if-size-lt1.false c.if-size-gt-MOST_ROWS.false
+    ∙ ap Ok (sym (blank-tabled c.args.size c.zero.result c.if-size-gt-MOST_ROWS.false c.zero.ensures))

@@ -8,13 +8,13 @@ pub returns-then-place-places : goal.returns-then-place-places
 unfolding placed tabled
 returns-then-place-places c = search rules
 
-pub returns-in-err-entry : goal.returns-in-err-entry
+pub returns-in_err-entry : goal.returns-in_err-entry
 unfolding placed tabled
-returns-in-err-entry c = search rules
+returns-in_err-entry c = search rules
 
 pub returns : goal.returns
 returns c =
     let d = c.args.self.now in
-    let e = c.in-ok-entry.entry in
+    let e = c.in_ok-entry.entry in
     let made : entry_of c.args.low c.args.high ≡ Ok (ends_of e) = search rules in
     accepted_place d.size d.entries c.args.place c.args.low c.args.high e (omega arith) made

@@ -15,9 +15,9 @@ loop-place-preserved c =
     let h : l.place < length l.entries = omega (arith, l.invariant.0) in
     let there : l.place < places_of s.size = omega arith in
     let h' : l.place < length s.entries = omega (arith, s.full) in
-    let made : ends_of c.fixed-entry.result ≡ box_entry m (table_of s) l.place =
-    c.fixed-entry.ensures ∙ ap (fixed_entry m l.place) (sym (ends_tabled s.size s.entries l.place c.index-self-place.result there h')) in
-    (simp length-set l.invariant.0, filled_more ends_of (box_entry m (table_of s)) l.entries l.place c.fixed-entry.result h made l.invariant.1)
+    let made : ends_of c.fixed_entry.result ≡ box_entry m (table_of s) l.place =
+    c.fixed_entry.ensures ∙ ap (fixed_entry m l.place) (sym (ends_tabled s.size s.entries l.place c.index-self-place.result there h')) in
+    (simp length-set l.invariant.0, filled_more ends_of (box_entry m (table_of s)) l.entries l.place c.fixed_entry.result h made l.invariant.1)
 
 pub returns : goal.returns
 returns c =

@@ -3,10 +3,10 @@ use Rattle.systems.specs.Entries.{ends_of, is_wide}
 use Rattle.systems.specs.Tables.{places_of}
 use Rattle.systems.proofs.Walks.{wide_more, thin_more, count_few, counted_tabled}
 use Rattle.systems.proofs.system.System.wide_entries.Goals as goal
-use Rattle.systems.proofs.system.System.wide_entries.Goals.{then-is-wide, else-is-wide}
+use Rattle.systems.proofs.system.System.wide_entries.Goals.{then-is_wide, else-is_wide}
 
-pub overflow-add-count : goal.overflow-add-count
-overflow-add-count c = let k = count_few c.args.self.now.entries c.loop-place.place c.args.self.now.full in omega arith
+pub overflow_add-count : goal.overflow_add-count
+overflow_add-count c = let k = count_few c.args.self.now.entries c.loop-place.place c.args.self.now.full in omega arith
 
 pub loop-place-preserved : goal.loop-place-preserved
 loop-place-preserved c =
@@ -14,9 +14,9 @@ loop-place-preserved c =
     let i = c.loop-place.place in
     let e = c.index-self-place.result in
     let h : i < length s.entries = omega (arith, s.full) in
-    elim c.if-is-wide.branch [
-      | then-is-wide w ↦ omega (arith, w.count-is, wide_more s.entries i e h (sym c.is-wide.ensures ∙ w.if-is-wide.true))
-      | else-is-wide w ↦ omega (arith, w.count-is, thin_more s.entries i e h (sym c.is-wide.ensures ∙ w.if-is-wide.false))
+    elim c.if-is_wide.branch [
+      | then-is_wide w ↦ omega (arith, w.count-is, wide_more s.entries i e h (sym c.is_wide.ensures ∙ w.if-is_wide.true))
+      | else-is_wide w ↦ omega (arith, w.count-is, thin_more s.entries i e h (sym c.is_wide.ensures ∙ w.if-is_wide.false))
     ]
 
 pub returns : goal.returns
