@@ -43,7 +43,7 @@ returns-in_err-lines c =
     let below : l.i < n = omega arith in
     let long : n ≤ length old = search rules in
     let long'' : n ≤ length l.lines = omega (arith, l.invariant.0) in
-    let q = err_from_is_err_and c.from-residual.result c.from-residual.ensures.1 in
+    let q = err_from_is_err_and c.from_residual.result c.from_residual.ensures.1 in
     rw (q.1, q.2)
     (each_with_lem (reduced_of (viewed k n c.args.pivot.now)) (between (k + 1) n (map (viewed k n) old))
     ∙ viewed_refused (viewed k n) (viewed (k + 1) n) (viewed k n) (first (reduced_of (viewed k n c.args.pivot.now))) old l.lines old (k + 1) n l.i z z from below long long long'' l.invariant.1 l.invariant.2 _ (sym c.in_err-lines.ensures))

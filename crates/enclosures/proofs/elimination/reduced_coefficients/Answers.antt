@@ -45,7 +45,7 @@ returns-in_err-coefficients c =
     let long : c.args.n ≤ length old = omega (arith, c.args.line.now.full) in
     let long' : c.args.n ≤ length ps = omega (arith, c.args.pivot.now.full) in
     let long'' : c.args.n ≤ length l.coefficients = omega (arith, l.invariant.0) in
-    let p = err_from_is_err_and c.from-residual.result c.from-residual.ensures.1 in
+    let p = err_from_is_err_and c.from_residual.result c.from_residual.ensures.1 in
     rw (p.1, p.2) record {
       value = sym (viewed_refused ends_of ends_of ends_of (less_multiple (ends_of c.args.m)) old l.coefficients ps (c.args.k + 1) c.args.n l.j c.index-coefficients-j.result c.index-pivot-j.result from below long long' long'' l.invariant.1 l.invariant.2 _ (sym c.in_err-coefficients.ensures));
       full = tt;

@@ -39,5 +39,5 @@ returns-in_err-next c =
     let l = c.loop-i in
     let below : l.i < t.size = omega (arith, c.size-i-end.ensures.value) in
     let stops = l.invariant.0 ∙ reach_refused (bound_of t) _ l.i t.size c.in_err-next.field-0.0 below (sym c.in_err-next.ensures.value) in
-    let q = err_from_is_err_and c.from-residual.result c.from-residual.ensures.1 in
+    let q = err_from_is_err_and c.from_residual.result c.from_residual.ensures.1 in
     rw (q.1, q.2) record { value = sym stops; small = tt }

@@ -13,7 +13,7 @@ use Rattle.hostcall.proofs.answer.answer.Goals as goal
 pub returns-in_err-system : goal.returns-in_err-system
 returns-in_err-system c =
     let job = c.args.job.now in
-    let q = err_from_is_err_and c.from-residual.result c.from-residual.ensures.1 in
+    let q = err_from_is_err_and c.from_residual.result c.from_residual.ensures.1 in
     let e = c.in_err-system.field-0.0 in
     let o = asked_of job c.args.component c.args.budget c.args.room in
     let asked = asked_unread job c.args.component c.args.budget c.args.room e (sym c.in_err-system.ensures) in
@@ -34,7 +34,7 @@ pub returns-in_err-report : goal.returns-in_err-report
 returns-in_err-report c =
     let job = c.args.job.now in
     let t = table_of c.in_ok-system.system in
-    let q = err_from_is_err_and c.from-residual-in_err-report.result c.from-residual-in_err-report.ensures.1 in
+    let q = err_from_is_err_and c.from_residual-in_err-report.result c.from_residual-in_err-report.ensures.1 in
     let e = c.in_err-report.field-0.0 in
     let o = asked_of job c.args.component c.args.budget c.args.room in
     let told = c.in_err-report.ensures.value in

@@ -27,5 +27,5 @@ returns-in_err-row c =
     let t = table_of c.args.system.now in
     let one : t.size ≡ 1 = search rules in
     let q : quotient_of (in_grains (ends_at t 1)) (in_grains (ends_at t 0)) ≡ Err c.in_err-row.field-0.0 = search rules in
-    let r = err_from_is_err_and c.from-residual.result c.from-residual.ensures.1 in
-    encloses_fault (division_of t) r.0 c.from-residual.result c.args.row.now (stops t c.in_err-row.field-0.0 one q ∙ ap Err (sym r.2)) r.1
+    let r = err_from_is_err_and c.from_residual.result c.from_residual.ensures.1 in
+    encloses_fault (division_of t) r.0 c.from_residual.result c.args.row.now (stops t c.in_err-row.field-0.0 one q ∙ ap Err (sym r.2)) r.1

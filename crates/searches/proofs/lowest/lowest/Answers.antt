@@ -13,11 +13,11 @@ use Rattle.searches.proofs.lowest.lowest.Goals as goal
 pub returns-in_err-report : goal.returns-in_err-report
 unfolding lowest_of
 returns-in_err-report g c =
-    let q = err_from_is_err_and c.from-residual.result c.from-residual.ensures.1 in
+    let q = err_from_is_err_and c.from_residual.result c.from_residual.ensures.1 in
     let t = table_of c.args.system in
     let is = q.1 ∙ ap (λ (d : NoFigure). Err d) q.2 in
     record {
-      value = lowest_refused (solved_of (g.M.Enclosure.meaning c.args.method) (g.R.Rule.answer c.args.rule) t c.args.component c.args.budget) c.in_err-report.field-0.0 c.from-residual.result is c.in_err-report.ensures.value;
+      value = lowest_refused (solved_of (g.M.Enclosure.meaning c.args.method) (g.R.Rule.answer c.args.rule) t c.args.component c.args.budget) c.in_err-report.field-0.0 c.from_residual.result is c.in_err-report.ensures.value;
       holds = subst (λ (o : Result ℤ NoFigure). Holds itself o t c.args.component) (sym is) tt;
     }
 

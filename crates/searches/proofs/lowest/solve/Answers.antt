@@ -15,13 +15,13 @@ use Rattle.searches.proofs.lowest.solve.Goals as goal
 pub returns-in_err-start : goal.returns-in_err-start
 returns-in_err-start g c =
     let made = c.in_ok-search.ensures in
-    let q = err_from_is_err_and c.from-residual-in_err-start.result c.from-residual-in_err-start.ensures.1 in
+    let q = err_from_is_err_and c.from_residual-in_err-start.result c.from_residual-in_err-start.ensures.1 in
     let e = c.in_err-start.field-0.0 in
     let v = g.M.Enclosure.meaning c.args.method in
     let r = g.R.Rule.answer c.args.rule in
     let t = table_of c.args.system in
     let refused = c.in_err-start.ensures.outcome ∙ (λ i. step (g.M.Enclosure.meaning (made.2 i)) (g.R.Rule.answer (made.3 i)) (table_of (made.1 i)) (start c.args.component) (made.0 i)) in
-    let is : c.from-residual-in_err-start.result ≡ Err (Refused e) = q.1 ∙ ap Err q.2 in
+    let is : c.from_residual-in_err-start.result ≡ Err (Refused e) = q.1 ∙ ap Err q.2 in
     record {
       value = subst (λ (o : Result Report NoFigure). Answers o (solved_of v r t c.args.component c.args.budget)) (sym is) (solved_refused v r t c.args.component c.args.budget e (state_of c.start.new.self) refused);
       holds = subst (λ (o : Result Report NoFigure). Holds low_in o t c.args.component) (sym is) tt;

@@ -30,6 +30,6 @@ pub returns-in_err-solve_from : goal.returns-in_err-solve_from
 returns-in_err-solve_from c =
     let t = table_of c.args.system.now in
     let n = c.size-n.result in
-    let q = err_from_is_err_and c.from-residual.result c.from-residual.ensures.1 in
+    let q = err_from_is_err_and c.from_residual.result c.from_residual.ensures.1 in
     let stopped = verdict_fault t n c.lines.result c.size-n.ensures.value c.lines.ensures c.in_err-solve_from.field-0.0 c.in_err-solve_from.ensures in
-    encloses_fault (elimination_of t) q.0 c.from-residual.result c.args.row.now (stopped ∙ ap Err (sym q.2)) q.1
+    encloses_fault (elimination_of t) q.0 c.from_residual.result c.args.row.now (stopped ∙ ap Err (sym q.2)) q.1

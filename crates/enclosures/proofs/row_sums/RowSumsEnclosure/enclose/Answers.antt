@@ -36,6 +36,6 @@ returns c =
 pub returns-in_err-alpha : goal.returns-in_err-alpha
 returns-in_err-alpha c =
     let t = table_of c.args.system.now in
-    let q = err_from_is_err_and c.from-residual.result c.from-residual.ensures.1 in
+    let q = err_from_is_err_and c.from_residual.result c.from_residual.ensures.1 in
     let stopped = verdict_fault t c.in_err-alpha.field-0.0 (sym c.in_err-alpha.ensures.value) in
-    encloses_fault (row_sums_of t) q.0 c.from-residual.result c.args.row.now (stopped ∙ ap Err (sym q.2)) q.1
+    encloses_fault (row_sums_of t) q.0 c.from_residual.result c.args.row.now (stopped ∙ ap Err (sym q.2)) q.1

@@ -19,5 +19,5 @@ unfolding sweep_of
 returns-in_err-enclose g c =
     let t = table_of c.args.system.now in
     let v = g.M.Enclosure.meaning c.args.self.now.below in
-    let q = err_from_is_err_and c.from-residual.result c.from-residual.ensures.1 in
-    encloses_refused (v t) t c.from-residual.result c.in_err-enclose.field-0.0 c.args.row.now c.enclose.new.row c.in_err-enclose.ensures (q.1 ∙ ap Err q.2)
+    let q = err_from_is_err_and c.from_residual.result c.from_residual.ensures.1 in
+    encloses_refused (v t) t c.from_residual.result c.in_err-enclose.field-0.0 c.args.row.now c.enclose.new.row c.in_err-enclose.ensures (q.1 ∙ ap Err q.2)

@@ -29,7 +29,7 @@ returns-in_err-place g c =
     let own = c.args.self.now in
     let s = started_from c.args.progress (items_of own.waiting) in
     let places = c.if-is_full.ensures in
-    let q = err_from_is_err_and c.from-residual.result c.from-residual.ensures.1 in
+    let q = err_from_is_err_and c.from_residual.result c.from_residual.ensures.1 in
     record {
       outcome = ap (replaced_by s) (q.1 ∙ ap Err q.2) ∙ place_refused (g.M.Enclosure.meaning own.method) (g.R.Rule.answer own.rule) (table_of own.system) s c.if-is_settled.ensures places
           c.leading.result.marks (ap (λ w. w.marks) c.leading.ensures) (table_of c.boxed.result) c.boxed.ensures c.in_err-place.field-0.0 c.in_err-place.ensures;
@@ -41,7 +41,7 @@ returns-in_err-low g c =
     let own = c.args.self.now in
     let s = started_from c.args.progress (items_of own.waiting) in
     let places = c.if-is_full.ensures in
-    let q = err_from_is_err_and c.from-residual-in_err-low.result c.from-residual-in_err-low.ensures.1 in
+    let q = err_from_is_err_and c.from_residual-in_err-low.result c.from_residual-in_err-low.ensures.1 in
     record {
       outcome = ap (replaced_by s) (q.1 ∙ ap Err q.2) ∙ low_refused (g.M.Enclosure.meaning own.method) (g.R.Rule.answer own.rule) (table_of own.system) s c.if-is_settled.ensures places
           c.leading.result.marks (ap (λ w. w.marks) c.leading.ensures) (table_of c.boxed.result) c.boxed.ensures c.in_ok-place.place c.in_ok-place.ensures
@@ -54,7 +54,7 @@ returns-in_err-high g c =
     let own = c.args.self.now in
     let s = started_from c.args.progress (items_of own.waiting) in
     let places = c.if-is_full.ensures in
-    let q = err_from_is_err_and c.from-residual-in_err-high.result c.from-residual-in_err-high.ensures.1 in
+    let q = err_from_is_err_and c.from_residual-in_err-high.result c.from_residual-in_err-high.ensures.1 in
     record {
       outcome = ap (replaced_by s) (q.1 ∙ ap Err q.2) ∙ high_refused (g.M.Enclosure.meaning own.method) (g.R.Rule.answer own.rule) (table_of own.system) s c.if-is_settled.ensures places
           c.leading.result.marks (ap (λ w. w.marks) c.leading.ensures) (table_of c.boxed.result) c.boxed.ensures c.in_ok-place.place c.in_ok-place.ensures

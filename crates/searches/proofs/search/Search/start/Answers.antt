@@ -25,7 +25,7 @@ returns-then-not-has_component g c =
 pub returns-in_err-first : goal.returns-in_err-first
 returns-in_err-first g c =
     let own = c.args.self.now in
-    let q = err_from_is_err_and c.from-residual.result c.from-residual.ensures.1 in
+    let q = err_from_is_err_and c.from_residual.result c.from_residual.ensures.1 in
     record {
       outcome = ap (λ o. (answer_of o, state_of own)) (q.1 ∙ ap Err q.2) ∙ start_refused (g.M.Enclosure.meaning own.method) (table_of own.system) c.args.component own.progress (items_of own.waiting) (search rules) (search rules)
           c.none.result c.none.ensures c.in_err-first.field-0.0 c.in_err-first.ensures;

@@ -8,13 +8,13 @@ use Rattle.searches.proofs.search.methods.enter.Goals as goal
 
 pub returns-in_err-figures : goal.returns-in_err-figures
 returns-in_err-figures g c =
-    let q = err_from_is_err_and c.from-residual.result c.from-residual.ensures.1 in
+    let q = err_from_is_err_and c.from_residual.result c.from_residual.ensures.1 in
     q.1 ∙ ap Err q.2 ∙ entered_refused (g.M.Enclosure.meaning c.args.method.now) (table_of c.args.system.now) c.args.component c.args.marks (table_of c.boxed-inner.result) c.boxed-inner.ensures
     c.in_err-figures.field-0.0 c.in_err-figures.ensures
 
 pub returns-in_err-figures-2 : goal.returns-in_err-figures-2
 returns-in_err-figures-2 g c =
-    let q = err_from_is_err_and c.from-residual-in_err-figures-2.result c.from-residual-in_err-figures-2.ensures.1 in
+    let q = err_from_is_err_and c.from_residual-in_err-figures-2.result c.from_residual-in_err-figures-2.ensures.1 in
     q.1 ∙ ap Err q.2 ∙ entered_refused_middle (g.M.Enclosure.meaning c.args.method.now) (table_of c.args.system.now) c.args.component c.args.marks (table_of c.boxed-inner.result) c.boxed-inner.ensures
     (table_of c.midpoint-middle.result) c.midpoint-middle.ensures (ends_of c.in_ok-figures.field-0) c.in_ok-figures.ensures
     c.in_err-figures-2.field-0.0 c.in_err-figures-2.ensures
