@@ -15,7 +15,15 @@ loop-made-preserved g c =
     let same = inv.1 in
     let done = c.in-Ok.ensures in
     let now = started_from c.loop-made.current (items_of was.waiting) in
-    let asked = tried_there g.M.Enclosure.meaning g.R.Rule.answer own was c.loop-made.current same inv.0 in
+    let asked = tried_there g.M.Enclosure.meaning g.R.Rule.answer own was c.loop-made.current same inv.0 in (
+      done.outcome.1,
+      same_again own was c.advance.new.self same done.same,
+      runs_more v r t c.args.budget c.loop-made.made (started_from c.args.progress (items_of own.waiting)) now (started_from c.in-Ok.next (items_of c.advance.new.self.waiting)) inv.2 c.loop-made-test.true (sym asked ∙ done.outcome.0),
+    )
+
+pub returns-in-Err : goal.returns-in-Err
+returns-in-Err g c =
+    let own = c.args.self.now in
     let v = g.M.Enclosure.meaning own.method in
     let r = g.R.Rule.answer own.rule in
     let t = table_of own.system in
