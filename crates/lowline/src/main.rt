@@ -81,7 +81,7 @@ fn asked(rt: &HostRuntime) -> io::Result<Wish> {
     let mut wish = Wish::Solve;
     let mut known = true;
     for word in env::args(rt)?.skip(1) {
-        if word == "--help" {
+        if word.as_str() == "--help" {
             wish = Wish::Help;
         } else {
             known = false;
