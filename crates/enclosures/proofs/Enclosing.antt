@@ -3,7 +3,6 @@ use Rattle.std.proofs.Common.{◌≡◌, ℕ, ◌+◌, ◌-◌, ◌<◌, ◌≤�
 use lib.ListN.{length-map}
 use Rattle.std.proofs.lemmas.List.{take_more, drop_more, set_at, take-map, drop-map}
 use Rattle.std.specs.List.{range_with_len, between}
-use Rattle.algebra.specs.Ends.{Ends}
 use Rattle.grains.specs.Arithmetic.{ends_of}
 use Rattle.grains.specs.declared.interval.ArithmeticError.{ArithmeticError}
 use Rattle.grains.specs.declared.interval.Interval.{Interval}

@@ -1,5 +1,5 @@
 -- Three of the laws of a method follow from one: bounds on every vector that solves a point system up to a scale, scale 0 included. Assumes nothing.
-use Rattle.std.specs.Prelude.{◌≡◌, ℕ, ◌<◌, ◌≤◌, List, map, length, ℤ, pos, Ok}
+use Rattle.std.specs.Prelude.{◌≡◌, ◌≤◌, List, length, pos, Ok}
 use Rattle.std.proofs.Common.{arith}
 use Rattle.std.proofs.lemmas.List.FromFn.{length-map-range_with_len}
 use Rattle.algebra.specs.Ends.{Ends}

@@ -1,5 +1,5 @@
 -- Elimination encloses: a vector that solves whole-number rows lying in the working rows lies, component by component, in the row. Assumes nothing.
-use Rattle.std.specs.Prelude.{◌≡◌, ℕ, zero, suc, ◌+◌, ◌*◌, ◌<◌, ◌≤◌, false, List, [], ◌∷◌, length, ℤ, pos, negsuc, ◌+ℤ◌, ◌-ℤ◌, ◌*ℤ◌, neg_ℤ, ◌≤ℤ◌, Ok, Result, unsigned_abs}
+use Rattle.std.specs.Prelude.{◌≡◌, ℕ, zero, suc, ◌*◌, ◌<◌, false, List, [], ◌∷◌, length, ℤ, pos, negsuc, ◌+ℤ◌, ◌-ℤ◌, ◌*ℤ◌, ◌≤ℤ◌, Ok, unsigned_abs}
 use Rattle.std.proofs.Common.{arith, mul-pos, sym, ◌∙◌}
 use Rattle.std.proofs.Math.Path.{refl, ap, subst}
 use Rattle.std.proofs.Math.IntN.{*ℤ-zero}
@@ -7,7 +7,7 @@ use Rattle.std.proofs.lemmas.Int.{ints}
 use Rattle.std.specs.List.{AllByRecursion as All}
 use Rattle.algebra.specs.Chaining.{and_then, each, each_with}
 use Rattle.algebra.specs.Ends.{Ends}
-use Rattle.algebra.specs.Ring.{◌⊕◌, ◌⊖◌, ◌⊗◌, minus, lit, ◌⩵◌}
+use Rattle.algebra.specs.Ring.{◌⊕◌, ◌⊖◌, ◌⊗◌, lit, ◌⩵◌}
 use Rattle.algebra.specs.Vectors.{dot}
 use Rattle.algebra.proofs.Chaining.{ok_value, then_ok, guard_ok}
 use Rattle.algebra.proofs.Ring.{linear, solve}

@@ -1,10 +1,9 @@
 -- What an enclosure method owes, over its meaning: a function from tables to verdicts.
 use Rattle.std.specs.Prelude.{◌≡◌, ℕ, ◌<◌, List, length, ℤ, pos, Ok, slice_index_or}
 use Rattle.algebra.specs.Ends.{Ends, Included, from_to}
-use Rattle.algebra.specs.Solving.{Agree, Bounded}
-use Rattle.algebra.specs.Vectors.{at}
+use Rattle.algebra.specs.Solving.{Agree}
 use Rattle.grains.specs.Narrowing.{IntervalOfFigures}
-use Rattle.systems.specs.Points.{Proper, PointIn, SolutionOf, point_rows, AtMost, AtLeast}
+use Rattle.systems.specs.Points.{Proper, PointIn, SolutionOf, AtMost, AtLeast}
 use Rattle.systems.specs.Tables.{Table, Narrower}
 use Rattle.enclosures.specs.Verdicts.{Verdict}
 

@@ -1,17 +1,16 @@
 -- The laws of elimination. Assumes nothing.
-use Rattle.std.specs.Prelude.{◌≡◌, ℕ, zero, suc, ◌+◌, ◌*◌, ◌<◌, ◌≤◌, false, List, [], ◌∷◌, map, length, get_or, ℤ, pos, ◌≤ℤ◌, Ok, Result, refl}
+use Rattle.std.specs.Prelude.{◌≡◌, ℕ, zero, suc, ◌+◌, ◌*◌, ◌<◌, List, [], ◌∷◌, map, length, Ok}
 use Rattle.std.proofs.Common.{arith, sym, ap, subst, ◌∙◌}
 use Rattle.std.proofs.lemmas.Int.{ints}
 use Rattle.std.proofs.lemmas.List.FromFn.{length-map-range_with_len}
 use Rattle.std.specs.List.{range_with_len, AllByRecursion as All}
 use Rattle.algebra.specs.Chaining.{and_then, each}
-use Rattle.algebra.specs.Ends.{Ends, Ordered, Included, from_to}
+use Rattle.algebra.specs.Ends.{Ends, Ordered, Included}
 use Rattle.algebra.proofs.Chaining.{ok_value, then_ok, guard_ok}
 use Rattle.grains.specs.Arithmetic.{contains_zero}
 use Rattle.grains.specs.Narrowing.{IntervalOfFigures}
 use Rattle.grains.specs.declared.interval.ArithmeticError.TheVariants.{DivisorContainsZero}
-use Rattle.systems.specs.Points.{Proper}
-use Rattle.systems.specs.Tables.{Table, Narrower, places_of, ends_at}
+use Rattle.systems.specs.Tables.{Table, places_of, ends_at}
 use Rattle.enclosures.specs.Elimination.{Row, lead, in_grains, reduced_of, solved_of, eliminated, row_of, elimination_of}
 use Rattle.enclosures.specs.Methods as methods
 use Rattle.enclosures.specs.Methods.{component_of, RowFor, Shaped}

@@ -1,12 +1,11 @@
 -- Elimination narrows: on working rows within wider ones each step is accepted where it is on the wider ones, and its answer lies within theirs. Assumes nothing.
-use Rattle.std.specs.Prelude.{◌≡◌, ℕ, zero, suc, ◌+◌, ◌*◌, ◌<◌, ◌≤◌, Bool, true, false, cond, List, [], ◌∷◌, map, length, drop, ℤ, pos, ◌≤ℤ◌, Ok, Err, Result, slice_index_or, refl}
-use Rattle.std.proofs.Common.{arith, sym, ap, subst, ◌∙◌}
+use Rattle.std.specs.Prelude.{◌≡◌, ℕ, zero, suc, false, List, [], ◌∷◌, drop, pos, Ok, Result, slice_index_or, refl}
+use Rattle.std.proofs.Common.{arith, ap, subst, ◌∙◌}
 use Rattle.std.proofs.lemmas.Int.{ints}
 use Rattle.std.specs.List.{AllByRecursion as All}
 use Rattle.algebra.specs.Chaining.{and_then, each, each_with}
 use Rattle.algebra.specs.Ends.{Ends, Ordered, Included, from_to}
 use Rattle.algebra.proofs.Chaining.{ok_value, then_ok, guard_ok}
-use Rattle.algebra.proofs.Ring.{linear}
 use Rattle.grains.specs.Arithmetic.{product_of, difference_of, quotient_of, contains_zero}
 use Rattle.grains.specs.Narrowing.{IntervalOfFigures}
 use Rattle.grains.specs.declared.interval.ArithmeticError.{ArithmeticError}

@@ -1,6 +1,6 @@
 -- The rows of a point system lie in the working rows of its system, so elimination bounds their solutions. Assumes nothing.
-use Rattle.std.specs.Prelude.{◌≡◌, ℕ, zero, suc, ◌+◌, ◌*◌, ◌<◌, ◌≤◌, List, [], ◌∷◌, map, length, ℤ, pos, negsuc, ◌*ℤ◌, ◌≤ℤ◌, Ok, Err, Result, refl}
-use Rattle.std.proofs.Common.{arith, ap, ◌∙◌}
+use Rattle.std.specs.Prelude.{◌≡◌, ℕ, zero, suc, ◌+◌, ◌*◌, ◌<◌, ◌≤◌, List, [], ◌∷◌, map, length, ℤ, pos, negsuc, ◌*ℤ◌, Ok, Err, Result, refl}
+use Rattle.std.proofs.Common.{arith, ◌∙◌}
 use Rattle.std.proofs.Math.Path.{sym}
 use Rattle.std.proofs.lemmas.Int.{ints}
 use Rattle.std.proofs.lemmas.Nat.{mul-le}
@@ -15,9 +15,9 @@ use Rattle.algebra.proofs.Order.{times_mono}
 use Rattle.algebra.proofs.Ring.{linear, solve}
 use Rattle.grains.specs.Points.{Lies}
 use Rattle.grains.specs.declared.interval.ArithmeticError.{ArithmeticError}
-use Rattle.systems.specs.Points.{Proper, PointIn, point_row, point_rows}
+use Rattle.systems.specs.Points.{PointIn, point_row, point_rows}
 use Rattle.systems.specs.Tables.{Table, places_of, ends_at}
-use Rattle.enclosures.specs.Elimination.{Row, in_grains, working_at, row_of, eliminated, elimination_of}
+use Rattle.enclosures.specs.Elimination.{in_grains, working_at, row_of, eliminated, elimination_of}
 use Rattle.enclosures.specs.Methods.{component_of}
 use Rattle.enclosures.specs.Verdicts.{verdict_of}
 use Rattle.enclosures.specs.Bounds.{Bounds}

@@ -1,9 +1,8 @@
 -- The laws of the sweep, from those of the method below it. Assumes nothing.
-use Rattle.std.specs.Prelude.{◌≡◌, ℕ, zero, suc, ◌+◌, ◌*◌, ◌<◌, ◌≤◌, Bool, true, false, cond, List, [], ◌∷◌, ◌++◌, map, length, ℤ, pos, ◌+ℤ◌, ◌-ℤ◌, ◌*ℤ◌, neg_ℤ, ◌≤ℤ◌, Some, None, Ok, Err, Option, Result, slice_set, refl}
+use Rattle.std.specs.Prelude.{◌≡◌, ℕ, zero, suc, ◌+◌, ◌<◌, ◌≤◌, false, List, [], ◌∷◌, map, length, ℤ, pos, ◌+ℤ◌, ◌-ℤ◌, ◌*ℤ◌, Some, None, Ok, Err, Option, Result, slice_set, refl}
 use Rattle.std.proofs.Common.{arith, sym, subst, ◌∙◌, length-set}
 use Rattle.std.proofs.Math.Path.{ap}
 use Rattle.std.proofs.Math.ListN.{get_or-map}
-use Rattle.std.specs.Int.Signed.{le_z}
 use Rattle.std.proofs.lemmas.List.FromFn.{length-map-range_with_len, get_or-map-range_with_len}
 use Rattle.std.proofs.ByRecursion.{All-get_or}
 use Rattle.std.proofs.lemmas.Int.{clamps, ints}
@@ -16,7 +15,7 @@ use Rattle.algebra.specs.Solving.{Row as WholeRow}
 use Rattle.algebra.specs.Vectors.{at, dot}
 use Rattle.algebra.proofs.Chaining.{ok_value, then_ok, guard_ok}
 use Rattle.algebra.proofs.Ring.{linear}
-use Rattle.grains.specs.Arithmetic.{Figure, common_of, contains_zero, in_span, least_quotient, greatest_quotient, quotient_of}
+use Rattle.grains.specs.Arithmetic.{common_of, contains_zero, in_span, least_quotient, greatest_quotient, quotient_of}
 use Rattle.grains.specs.Narrowing.{IntervalOfFigures}
 use Rattle.grains.specs.Points.{Lies}
 use Rattle.grains.specs.declared.interval.ArithmeticError.{ArithmeticError}
@@ -26,14 +25,14 @@ use Rattle.grains.proofs.Narrowing.{common_narrows}
 use Rattle.grains.proofs.Span.{common_out, common_is}
 use Rattle.systems.specs.Entries.{thin}
 use Rattle.systems.specs.Points.{Proper, PointIn, SolutionOf, point_row, AtMost, AtLeast}
-use Rattle.systems.specs.Tables.{Table, Narrower, places_of, ends_at}
+use Rattle.systems.specs.Tables.{Table, Narrower}
 use Rattle.enclosures.specs.Elimination.{Row, less_products, row_of}
 use Rattle.enclosures.specs.Methods as methods
 use Rattle.enclosures.specs.Methods.{component_of, RowFor, Shaped, Solvable, Agreed, Enclosed}
 use Rattle.enclosures.specs.Sweeping.{solved_for, narrowed_by, narrowed_at, swept_from, sweep_of}
 use Rattle.enclosures.specs.Verdicts.{Verdict}
-use Rattle.enclosures.specs.Containment.{Lied, Holds, Rest, rest_start, rest_all, solved_quotient}
-use Rattle.enclosures.specs.Nesting.{Inner, Nested, NestedRow, Within, then_within, products_within, quotient_within}
+use Rattle.enclosures.specs.Containment.{Lied, Rest, rest_start, rest_all, solved_quotient}
+use Rattle.enclosures.specs.Nesting.{Inner, Nested, NestedRow, then_within, products_within, quotient_within}
 use Rattle.enclosures.specs.PointRows.{lied_at, row_holds}
 use Rattle.enclosures.specs.Narrowing.{row_at, row_nested}
 use Rattle.enclosures.specs.Sweeps.{swept_long}

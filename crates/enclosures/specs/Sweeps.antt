@@ -2,7 +2,7 @@
 use Rattle.std.specs.Prelude.{◌≡◌, ℕ, zero, suc, ◌+◌, ◌-◌, ◌<◌, ◌≤◌, List, [], ◌∷◌, ◌++◌, map, length, take, drop, pos, Some, None, Ok, Err, Option, Result, slice_index_or, slice_set, refl}
 use Rattle.std.proofs.Common.{arith, add-one, sym, ap, ◌∙◌, length-take, length-set, take-append-drop}
 use Rattle.std.proofs.Math.Seq.{take-set-lt}
-use Rattle.std.proofs.lemmas.List.{drop-take, take-take, get_or-take, get_or-map, take-map, drop-map, take_at, drop_at, drop-set-lt, length-map, map-set}
+use Rattle.std.proofs.lemmas.List.{drop-take, take-take, get_or-take, get_or-map, drop-map, take_at, drop_at, length-map, map-set}
 use Rattle.std.specs.Option.{option_map, unwrap_or}
 use Rattle.std.specs.List.{between, remove}
 use Rattle.algebra.specs.Chaining.{and_then}
@@ -13,9 +13,9 @@ use Rattle.grains.specs.declared.interval.Interval.{Interval}
 use Rattle.systems.specs.Tables.{Table}
 use Rattle.enclosures.specs.declared.fault.Fault.{Fault}
 use Rattle.enclosures.specs.declared.line.Line.{Line}
-use Rattle.enclosures.specs.Elimination.{Row, less_multiple, less_products, row_of}
+use Rattle.enclosures.specs.Elimination.{less_multiple, less_products, row_of}
 use Rattle.enclosures.specs.Methods.{component_of}
-use Rattle.enclosures.specs.Sweeping.{solved_for, narrowed_at, narrowed_by, swept_from, sweep_of}
+use Rattle.enclosures.specs.Sweeping.{solved_for, narrowed_at, narrowed_by, swept_from}
 use Rattle.enclosures.specs.Verdicts.{Verdict, Encloses}
 use Rattle.enclosures.specs.Working.{viewed}
 use Rattle.algebra.proofs.Filling.{between_start}

@@ -1,5 +1,5 @@
 -- Figures worked out by hand. `negsuc n` is -(n + 1); 16384 grains make one.
-use Rattle.std.specs.Prelude.{◌≡◌, ℕ, List, [], ◌∷◌, ℤ, pos, negsuc, Ok, Err}
+use Rattle.std.specs.Prelude.{◌≡◌, [], ◌∷◌, ℤ, pos, negsuc, Ok, Err}
 use Rattle.algebra.specs.Ends.{Ends, from_to}
 use Rattle.grains.specs.Arithmetic.{quotient_of}
 use Rattle.systems.specs.Entries.{thin, middle}

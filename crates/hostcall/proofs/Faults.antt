@@ -12,14 +12,12 @@ use Rattle.enclosures.specs.declared.fault.Fault.{Fault}
 use Rattle.enclosures.specs.Elimination.{elimination_of}
 use Rattle.enclosures.specs.Sweeping.{sweep_of}
 use Rattle.enclosures.specs.Verdicts.{Verdict, fault_of, verdict_of}
-use Rattle.partition.specs.Choosing.{widest_of}
 use Rattle.partition.specs.declared.marks.Marks.{Marks}
-use Rattle.outcomes.specs.declared.reading.Report.{Report}
 use Rattle.outcomes.specs.declared.record.Entered.{Entered}
 use Rattle.outcomes.specs.declared.refusal.SearchRefusal.{SearchRefusal}
 use Rattle.outcomes.specs.declared.refusal.SearchRefusal.TheVariants as refusal
 use Rattle.outcomes.specs.Refusals.{number_of as search_number}
-use Rattle.outcomes.specs.Searching.{Started, box, figures_of, entered, start_of, unfixed, report_of, run_of}
+use Rattle.outcomes.specs.Searching.{Started, box, figures_of, entered, start_of, unfixed}
 use Rattle.searches.specs.Lowest.{solved_of}
 use Rattle.solver.specs.Solving.{found_for}
 

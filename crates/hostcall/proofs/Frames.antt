@@ -1,5 +1,5 @@
 -- Forty bytes, written eight by eight. Assumes nothing.
-use Rattle.std.proofs.Common.{◌≡◌, ℕ, ◌+◌, ◌-◌, ◌≤◌, List, [], ◌∷◌, ◌++◌, length, take, drop, ℤ, pos, negsuc, sym, refl, ap, ◌∙◌, subst, arith, length-append, w64, of_z}
+use Rattle.std.proofs.Common.{◌≡◌, ℕ, ◌+◌, ◌≤◌, List, ◌++◌, length, take, drop, ℤ, pos, negsuc, refl, ap, ◌∙◌, arith, length-append, w64, of_z}
 use Rattle.std.proofs.lemmas.List.{append_assoc, take_at}
 use Rattle.jobs.specs.Writing.{overwritten}
 use Rattle.jobs.proofs.Records.{overwritten_front, overwritten_more}

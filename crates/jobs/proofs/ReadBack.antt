@@ -1,5 +1,5 @@
 -- What is written is read back: `parsed-written`. Assumes nothing.
-use Rattle.std.proofs.Common.{◌≡◌, ℕ, ◌+◌, ◌-◌, ◌*◌, ◌/◌, ◌%◌, ◌<◌, ◌≤◌, true, false, List, [], ◌∷◌, ◌++◌, map, length, take, drop, set, replicate, ℤ, pos, negsuc, neg_ℤ, ◌≤ℤ◌, Some, None, Ok, Option, sym, refl, ap, ◌∙◌, append_assoc, arith}
+use Rattle.std.proofs.Common.{◌≡◌, ℕ, ◌+◌, ◌*◌, ◌/◌, ◌%◌, ◌<◌, ◌≤◌, true, false, List, [], ◌∷◌, ◌++◌, map, length, take, drop, set, replicate, ℤ, pos, negsuc, neg_ℤ, ◌≤ℤ◌, Some, None, Ok, Option, sym, refl, ap, ◌∙◌, append_assoc, arith}
 use borrow.Author.Differences.{ints}
 use lib.ListN.{length-map}
 use Rattle.std.proofs.lemmas.List.{take-map, set_at, length_push}

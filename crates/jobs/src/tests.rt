@@ -144,8 +144,14 @@ fn ends_written(rt: HostRuntime) -> Result<(), Fail> {
     draft.set(1, 65536, 65536)?;
     let mut buffer = [0u8; 27];
     assert_eq!(rt; write(&draft.close(), &mut buffer), Ok(27));
-    assert_eq!(rt; &buffer[3..14], b"EN\x00\xff\xff\x00\x00\xff\xff\xff\xff");
-    assert_eq!(rt; &buffer[14..25], b"EN\x01\x00\x01\x00\x00\x00\x01\x00\x00");
+    assert_eq!(rt;
+        &buffer[3..14],
+        b"EN\x00\xff\xff\x00\x00\xff\xff\xff\xff".as_slice()
+    );
+    assert_eq!(rt;
+        &buffer[14..25],
+        b"EN\x01\x00\x01\x00\x00\x00\x01\x00\x00".as_slice()
+    );
     Ok(())
 }
 

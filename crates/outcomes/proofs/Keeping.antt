@@ -11,7 +11,6 @@ use Rattle.algebra.specs.Ends.{Ends}
 use Rattle.algebra.specs.Vectors.{at}
 use Rattle.algebra.proofs.Order.{mono_times, times_strict, cancel-≤}
 use Rattle.systems.specs.Boxes.{box_of}
-use Rattle.systems.specs.Boxes as boxes
 use Rattle.systems.specs.Entries.{is_wide}
 use Rattle.systems.specs.Points.{Proper, PointIn, SolutionOf, AtMost}
 use Rattle.systems.specs.Tables.{Table, Corner, places_of, wide_entries}

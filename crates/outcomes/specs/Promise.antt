@@ -1,5 +1,5 @@
 -- What a search keeps, whatever was called before: a law over lists of calls with their answers.
-use Rattle.std.specs.Prelude.{◌≡◌, ℕ, suc, ◌+◌, ◌^◌, ◌<◌, ◌≤◌, true, List, [], ◌∷◌, ◌++◌, ℤ, ◌≤ℤ◌, Some, None, Ok, Err, Option, Result}
+use Rattle.std.specs.Prelude.{◌≡◌, ℕ, ◌+◌, ◌^◌, ◌<◌, ◌≤◌, true, List, [], ◌∷◌, ◌++◌, ℤ, ◌≤ℤ◌, Some, None, Ok, Err, Option, Result}
 use Rattle.algebra.specs.Ends.{Ends}
 use Rattle.systems.specs.Points.{Proper, PointIn, SolutionOf, AtMost, AtLeast}
 use Rattle.systems.specs.Tables.{Table, Corner, wide_entries}

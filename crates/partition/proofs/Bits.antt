@@ -1,5 +1,5 @@
 -- The bits of a number to which a power of two is added whose bit is not set. Assumes nothing.
-use Rattle.std.proofs.Common.{◌≡◌, ℕ, zero, suc, ◌+◌, ◌-◌, ◌*◌, ◌/◌, ◌%◌, ◌^◌, ◌<◌, ◌≤◌, Bool, true, false, cond, eqb, ltb, sym, refl, ap, ◌∙◌, subst, pow-suc, add-one, arith, pow_pos, pow-add, ltb-false, ltb-true, eq-eqb}
+use Rattle.std.proofs.Common.{◌≡◌, ℕ, zero, suc, ◌+◌, ◌-◌, ◌*◌, ◌/◌, ◌%◌, ◌^◌, ◌<◌, Bool, true, false, eqb, ltb, sym, refl, ap, ◌∙◌, subst, pow-suc, arith, pow_pos, pow-add, ltb-false, ltb-true, eq-eqb}
 use native.Mathlib.Nat.{add-div_right, add-mul-div_right, div-div-eq-div-mul}
 use Rattle.systems.specs.Boxes.{bit}
 

@@ -2,7 +2,6 @@
 use Rattle.std.proofs.Common.{◌≡◌, ℕ, zero, suc, ◌+◌, ◌-◌, ◌*◌, ◌/◌, ◌%◌, ◌^◌, ◌<◌, ◌≤◌, Bool, true, false, cond, eqb, List, [], ◌∷◌, map, ℤ, pos, count_by, sym, refl, ap, ◌∙◌, subst, mod-lt, zero-lt-suc, pow-suc, div-add-mod', add-one, arith, pow_pos, pow-add, ne_eqb, eqb-true}
 use native.Mathlib.Nat.{div-div-eq-div-mul}
 use lib.Count.{ones, ones_in, ones_step}
-use lib.Signed.{lt_z}
 use borrow.Author.Differences.{ints}
 use borrow.Author.Tests.{eqb-false}
 use Rattle.std.proofs.lemmas.Nat.{div_below, mul-le}
@@ -13,8 +12,8 @@ use Rattle.algebra.specs.Ends.{Ends, Ordered, Included}
 use Rattle.systems.specs.Boxes.{Marks, bit, fixed_entry, box_entry, box_of}
 use Rattle.systems.specs.Entries.{thin, is_wide}
 use Rattle.systems.specs.Points.{Proper}
-use Rattle.systems.specs.Tables.{Table, Narrower, places_of, ends_at, wide_entries}
-use Rattle.partition.specs.Boxing.{MarksFit, Free, FixedOnce, marked, BoxNarrower, BoxCounts, FixingNarrows}
+use Rattle.systems.specs.Tables.{Table, places_of, ends_at, wide_entries}
+use Rattle.partition.specs.Boxing.{MarksFit, Free, FixedOnce, marked, BoxNarrower, BoxCounts}
 use Rattle.partition.proofs.Bits.{even, bit-set, bit_kept}
 use Rattle.partition.specs.Choosing.{wide_at}
 

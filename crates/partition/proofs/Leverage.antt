@@ -1,8 +1,8 @@
 -- What a unit of width weighs, in a row that may be too short. Assumes nothing.
-use Rattle.std.proofs.Common.{◌≡◌, ℕ, ◌+◌, ◌%◌, ◌<◌, ◌≤◌, true, cond, ltb, List, map, length, get_or, ℤ, pos, sym, refl, ap, ◌∙◌, arith, lt-ltb}
+use Rattle.std.proofs.Common.{◌≡◌, ℕ, ◌+◌, ◌%◌, ◌<◌, ◌≤◌, List, map, length, get_or, pos, refl, ap, ◌∙◌, lt-ltb}
 use lib.ListN.{length-map}
 use Rattle.std.proofs.lemmas.List.{get_or-map, get_or_past}
-use Rattle.algebra.specs.Ends.{Ends, from_to}
+use Rattle.algebra.specs.Ends.{from_to}
 use Rattle.grains.specs.Arithmetic.{ends_of}
 use Rattle.grains.specs.declared.interval.Interval.{Interval}
 use Rattle.enclosures.specs.Methods.{component_of}

@@ -1,6 +1,6 @@
 -- The greatest of the wide places, and a scan for it. Assumes nothing.
-use Rattle.std.specs.Prelude.{◌≡◌, ℕ, zero, suc, ◌+◌, ◌%◌, ◌<◌, ◌≤◌, Bool, true, false, cond, List, [], ◌∷◌, map, length, ℤ, pos, ◌≤ℤ◌, ◌<ℤ◌, Some, None, Option, ◌≢◌, int_lt, refl}
-use Rattle.std.proofs.Common.{arith, sym, ap, subst, ◌∙◌, below_more}
+use Rattle.std.specs.Prelude.{◌≡◌, ℕ, zero, suc, ◌<◌, Bool, true, false, cond, ℤ, ◌≤ℤ◌, ◌<ℤ◌, Some, None, Option, ◌≢◌, int_lt, refl}
+use Rattle.std.proofs.Common.{arith, sym, subst, below_more}
 use Rattle.std.proofs.lemmas.Int.{ints}
 use Rattle.systems.specs.Tables.{Table, places_of}
 use Rattle.partition.specs.declared.rules.Best.{Best}

@@ -1,12 +1,11 @@
 -- What the places of a row hold after a method has enclosed a system. Assumes nothing.
-use Rattle.std.proofs.Common.{◌≡◌, ℕ, zero, suc, ◌+◌, ◌<◌, ◌≤◌, List, [], ◌∷◌, ◌++◌, map, length, get_or, take, drop, replicate, pos, Ok, Err, Result, sym, refl, ap, ◌∙◌, arith, get_or-drop}
+use Rattle.std.proofs.Common.{◌≡◌, ℕ, zero, suc, ◌+◌, ◌<◌, ◌≤◌, List, [], ◌∷◌, ◌++◌, map, length, get_or, take, drop, replicate, pos, Ok, Err, sym, refl, ap, ◌∙◌, arith, get_or-drop}
 use lib.ListN.{length-map}
 use Rattle.std.proofs.lemmas.List.{take-map, take_at, get_or-map, get_or_past}
 use Rattle.algebra.specs.Ends.{Ends, from_to}
 use Rattle.grains.specs.Arithmetic.{ends_of}
 use Rattle.grains.specs.declared.interval.Interval.{Interval}
 use Rattle.enclosures.specs.Verdicts.{Verdict, Encloses}
-use Rattle.outcomes.specs.declared.refusal.SearchRefusal.{SearchRefusal}
 use Rattle.outcomes.specs.Searching.{figures_of, place_in, place_by}
 use Rattle.partition.specs.Choosing.{Choice}
 use Rattle.systems.specs.Tables.{Table}

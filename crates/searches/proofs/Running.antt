@@ -1,5 +1,5 @@
 -- A run as a loop of splits. Assumes nothing.
-use Rattle.std.proofs.Common.{◌≡◌, ℕ, zero, suc, ◌+◌, ◌-◌, ◌<◌, ◌≤◌, Some, Ok, Err, Result, sym, refl, ap, ◌∙◌, subst, arith}
+use Rattle.std.proofs.Common.{◌≡◌, ℕ, zero, suc, ◌+◌, ◌-◌, ◌<◌, ◌≤◌, Some, Ok, Err, sym, ap, ◌∙◌, arith}
 use Rattle.systems.specs.Tables.{Table, table_of}
 use Rattle.enclosures.specs.Verdicts.{Verdict}
 use Rattle.partition.specs.Choosing.{Choice}

@@ -1,5 +1,5 @@
 -- The table of every system is proper. Assumes nothing.
-use Rattle.std.proofs.Common.{◌≡◌, ℕ, zero, suc, ◌+◌, ◌*◌, ◌≤◌, List, [], ◌∷◌, map, length, get_or, take, pos, neg_ℤ, ◌≤ℤ◌, refl, ◌∙◌, arith, length-take}
+use Rattle.std.proofs.Common.{ℕ, zero, suc, List, [], ◌∷◌, map, get_or, take, pos, neg_ℤ, ◌≤ℤ◌, ◌∙◌, arith, length-take}
 use lib.ListN.{length-map}
 use borrow.Author.Differences.{ints}
 use Rattle.algebra.specs.Ends.{Ends, Ordered}
@@ -7,7 +7,7 @@ use Rattle.systems.specs.declared.entry.Entry.{Entry}
 use Rattle.systems.specs.declared.system.System.{System}
 use Rattle.systems.specs.Entries.{ends_of, thin}
 use Rattle.systems.specs.Points.{Proper}
-use Rattle.systems.specs.Tables.{Table, places_of, tabled, table_of}
+use Rattle.systems.specs.Tables.{places_of, tabled, table_of}
 use Rattle.systems.proofs.Contents.{places_few}
 
 -- ends as an entry has them

@@ -1,5 +1,5 @@
 -- Steps of loops over the entries of a system. Assumes nothing.
-use Rattle.std.proofs.Common.{◌≡◌, ℕ, suc, ◌+◌, ◌<◌, ◌≤◌, Bool, true, false, cond, List, [], ◌∷◌, ◌++◌, map, length, get_or, take, drop, set, pos, count_by, sym, refl, ap, ◌∙◌, arith, length-take}
+use Rattle.std.proofs.Common.{◌≡◌, ℕ, ◌+◌, ◌<◌, ◌≤◌, true, false, List, [], ◌∷◌, ◌++◌, map, length, get_or, take, drop, set, pos, count_by, sym, refl, ap, ◌∙◌, arith, length-take}
 use lib.ListN.{length-map}
 use Rattle.std.specs.List.{range_with_len}
 use Rattle.std.proofs.lemmas.List.{take_more_set, map_push, map_more, drop_more, drop-set-lt, take-map, get_or-map, get_or-take}
@@ -7,7 +7,7 @@ use Rattle.std.proofs.lemmas.List.Sums.{count_by_more_yes, count_by_more_no, cou
 use Rattle.systems.specs.declared.entry.Entry.{Entry}
 use Rattle.systems.specs.Boxes.{Marks, box_entry, box_of}
 use Rattle.systems.specs.Entries.{ends_of, is_wide, middle, thin}
-use Rattle.systems.specs.Tables.{Table, places_of, ends_at, tabled, midpoint_of, wide_entries}
+use Rattle.systems.specs.Tables.{places_of, ends_at, tabled, midpoint_of, wide_entries}
 
 -- one more entry is counted
 module _ (xs : List Entry) (i : ℕ) (e : Entry) (h : i < length xs) where

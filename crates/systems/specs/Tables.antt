@@ -1,5 +1,5 @@
 -- What a draft or a system holds: its size n, and its n × (n + 1) entries by place, row by row, each row with its n matrix entries and then its right-hand entry.
-use Rattle.std.specs.Prelude.{◌≡◌, ℕ, ◌+◌, ◌*◌, ◌<◌, cond, ◌&&◌, ◌⊎◌, List, map, take, replicate, ℤ, pos, Some, None, Ok, Err, count_by, Option, Result, nat_le, nat_lt, slice_index_or, slice_set}
+use Rattle.std.specs.Prelude.{◌≡◌, ℕ, ◌+◌, ◌*◌, ◌<◌, cond, ◌&&◌, ◌⊎◌, List, map, take, replicate, ℤ, pos, Ok, Err, count_by, Option, Result, nat_le, nat_lt, slice_index_or, slice_set}
 use Rattle.std.specs.List.{slice_get}
 use Rattle.algebra.specs.Chaining.{and_then}
 use Rattle.algebra.specs.Ends.{Ends, Included}

@@ -1,7 +1,7 @@
-use Rattle.std.proofs.Common.{◌≡◌, ◌+◌, ◌<◌, ◌≤◌, true, false, ◌∷◌, map, length, get_or, Ok, sym, ap, ◌∙◌, arith, rules}
+use Rattle.std.proofs.Common.{◌+◌, ◌<◌, ◌≤◌, map, length, Ok, sym, ap, ◌∙◌, arith}
 use Rattle.std.proofs.lemmas.Result.{err_from_is_err_and}
 use Rattle.std.specs.List.{between}
-use Rattle.grains.specs.Arithmetic.{ends_of, contains_zero}
+use Rattle.grains.specs.Arithmetic.{ends_of}
 use Rattle.enclosures.specs.Working.{lined}
 use Rattle.enclosures.proofs.Views.{stops-at_pivot, stops_in_column, stops_below, stops-at_solution, solves, solution_fronted, eliminated_all}
 use Rattle.enclosures.proofs.elimination.+solve_from.Goals as goal

@@ -1,5 +1,4 @@
-use Rattle.std.proofs.Common.{◌≡◌, ◌<◌, map, length, take, sym, ap, ◌∙◌, arith, length-set}
-use Rattle.std.specs.List.{range_with_len}
+use Rattle.std.proofs.Common.{◌≡◌, ◌<◌, length, arith, length-set}
 use Rattle.systems.specs.Tables.{table_of}
 use Rattle.enclosures.specs.Elimination.{row_of}
 use Rattle.enclosures.specs.Working.{viewed}

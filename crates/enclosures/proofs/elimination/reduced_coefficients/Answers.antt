@@ -1,8 +1,8 @@
-use Rattle.std.proofs.Common.{◌≡◌, ◌+◌, ◌<◌, ◌≤◌, map, length, sym, refl, ap, ◌∙◌, arith, length-set}
+use Rattle.std.proofs.Common.{◌≡◌, ◌+◌, ◌<◌, ◌≤◌, map, length, sym, refl, arith, length-set}
 use Rattle.std.proofs.lemmas.Result.{err_from_is_err_and}
 use Rattle.grains.specs.Arithmetic.{ends_of}
 use Rattle.enclosures.specs.Elimination.{less_multiple}
-use Rattle.enclosures.proofs.Walks.{Going, going_none, going_all, viewed_more, viewed_refused, viewed_rest}
+use Rattle.enclosures.proofs.Walks.{going_none, going_all, viewed_more, viewed_refused, viewed_rest}
 use Rattle.enclosures.proofs.elimination.reduced_coefficients.Goals as goal
 
 pub loop-j-init : goal.loop-j-init

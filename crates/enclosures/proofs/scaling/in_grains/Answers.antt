@@ -1,6 +1,3 @@
-use Rattle.std.proofs.Common.{◌≡◌, Some}
-use Rattle.std.specs.Option.{option_map}
-use Rattle.grains.specs.Arithmetic.{ends_of}
 use Rattle.systems.specs.Entries.{ends_of as entry_ends}
 use Rattle.enclosures.specs.Elimination.{in_grains}
 use Rattle.enclosures.proofs.Scales.{made_in_grains, some_made, value_made}

@@ -1,4 +1,4 @@
-use Rattle.std.proofs.Common.{◌≤◌, length, arith, rules}
+use Rattle.std.proofs.Common.{◌≤◌, length, rules}
 use Rattle.enclosures.specs.Sweeps.{solved_for_viewed}
 use Rattle.enclosures.proofs.sweep.solved_for.Goals as goal
 

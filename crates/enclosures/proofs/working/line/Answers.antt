@@ -1,4 +1,4 @@
-use Rattle.std.proofs.Common.{◌≡◌, ◌+◌, ◌*◌, ◌<◌, length, sym, ap, ◌∙◌, arith, length-set}
+use Rattle.std.proofs.Common.{◌≡◌, ◌+◌, ◌*◌, ◌<◌, length, ap, ◌∙◌, arith, length-set}
 use Rattle.grains.specs.Arithmetic.{ends_of}
 use Rattle.systems.specs.Tables.{ends_at, table_of}
 use Rattle.enclosures.specs.Elimination.{in_grains, working_at, row_of}

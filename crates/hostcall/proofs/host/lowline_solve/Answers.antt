@@ -1,6 +1,6 @@
-use Rattle.std.proofs.Common.{◌≡◌, ℕ, ◌≤◌, List, ◌++◌, length, take, drop, Result, sym, refl, ap, ◌∙◌, subst, inl, inr, ⊎_elim}
+use Rattle.std.proofs.Common.{ℕ, length, drop, Result, sym, refl, subst, inl, inr, ⊎_elim}
 use Rattle.outcomes.specs.declared.reading.Report.{Report}
-use Rattle.hostcall.specs.Calling.{Called, asked_of}
+use Rattle.hostcall.specs.Calling.{Called}
 use Rattle.hostcall.proofs.Asking.{asked_ok}
 use Rattle.hostcall.proofs.Frames.{low_first}
 use Rattle.hostcall.proofs.host.lowline_solve.Goals as goal

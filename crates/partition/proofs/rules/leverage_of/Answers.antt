@@ -1,4 +1,4 @@
-use Rattle.std.proofs.Common.{◌≡◌, sym, ◌∙◌, arith, rules}
+use Rattle.std.proofs.Common.{sym, arith, rules}
 use borrow.Author.Differences.{ints}
 use Rattle.partition.proofs.Leverage.{leverage_there, leverage_missing}
 use Rattle.partition.proofs.rules.leverage_of.Goals as goal

@@ -1,4 +1,4 @@
-use Rattle.std.proofs.Common.{◌≡◌, ℕ, true, false, map, Option, sym, ap, ◌∙◌, subst, add-one, to_z-of_z, w64, to_z, of_z}
+use Rattle.std.proofs.Common.{◌≡◌, ℕ, map, Option, sym, ap, ◌∙◌, subst, add-one, to_z-of_z, w64, to_z, of_z}
 use Rattle.systems.specs.Entries.{is_wide}
 use Rattle.partition.specs.declared.rules.Best.{Best}
 use Rattle.partition.specs.Scanning.{Keeps}

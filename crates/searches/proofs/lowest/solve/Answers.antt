@@ -7,7 +7,7 @@ use Rattle.searches.specs.declared.lowest.NoFigure.{NoFigure}
 use Rattle.searches.specs.declared.lowest.NoFigure.TheVariants.{Refused}
 use Rattle.searches.specs.Lowest.{Answers, Holds, low_in, solved_of}
 use Rattle.outcomes.specs.Promise.{History, Reached, Kept}
-use Rattle.outcomes.specs.Searching.{start, run, read, step, State}
+use Rattle.outcomes.specs.Searching.{start, run, read, step}
 use Rattle.searches.specs.States.{state_of}
 use Rattle.searches.proofs.Using.{solved_refused, solved_made, solved_holds}
 use Rattle.searches.proofs.lowest.solve.Goals as goal

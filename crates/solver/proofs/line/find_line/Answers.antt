@@ -1,8 +1,8 @@
-use Rattle.std.proofs.Common.{◌≡◌, ap, ◌∙◌, rules}
+use Rattle.std.proofs.Common.{ap}
 use Rattle.solver.specs.declared.line.Outcome.{Outcome}
 use Rattle.solver.specs.declared.line.Line.{Line}
 use Rattle.systems.specs.Tables.{table_of}
-use Rattle.solver.specs.Lines.{line_of, outcome_of}
+use Rattle.solver.specs.Lines.{line_of}
 use Rattle.solver.specs.Solving.{found_for}
 use Rattle.solver.proofs.Said.{said}
 use Rattle.solver.proofs.line.find_line.Goals as goal

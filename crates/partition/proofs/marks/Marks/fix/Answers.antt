@@ -1,4 +1,4 @@
-use Rattle.std.proofs.Common.{◌≡◌, ℕ, ◌+◌, ◌<◌, sym, subst, w64, Fits, rules}
+use Rattle.std.proofs.Common.{ℕ, ◌+◌, ◌<◌, sym, subst, w64, Fits, rules}
 use Rattle.partition.specs.Marking.{marks_of}
 use Rattle.partition.proofs.Opens.{open_place, fixed_room, ends_room}
 use Rattle.partition.proofs.marks.Marks.fix.Goals as goal

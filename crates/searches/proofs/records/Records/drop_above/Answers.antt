@@ -1,8 +1,7 @@
-use Rattle.std.proofs.Common.{◌≡◌, ℕ, ◌+◌, ◌≤◌, true, false, List, filter, sym, ap, ◌∙◌, subst, w64, SFits, to_z, of_z, rules}
+use Rattle.std.proofs.Common.{◌≡◌, filter, sym, ap, ◌∙◌, w64, SFits, to_z, of_z, rules}
 use lib.Signed.{le_z}
-use Rattle.std.proofs.lemmas.List.Filters.{FiltersInPlace, FiltersInPlace-all, FiltersInPlace-more_no, FiltersInPlace-more_set}
+use Rattle.std.proofs.lemmas.List.Filters.{FiltersInPlace-all, FiltersInPlace-more_no, FiltersInPlace-more_set}
 use Rattle.std.proofs.lemmas.Int.{to_z-of_z}
-use Rattle.outcomes.specs.declared.record.Record.{Record}
 use Rattle.searches.specs.States.{items_of}
 use Rattle.outcomes.specs.Waiting.{not_above, kept_below}
 use Rattle.searches.proofs.records.Records.drop_above.Goals as goal

@@ -1,7 +1,5 @@
-use Rattle.std.proofs.Common.{◌≡◌, ℕ, ◌≤◌, List, length, pos, sym, ap, ◌∙◌, subst, ltb-false}
+use Rattle.std.proofs.Common.{ℕ, ◌≤◌, List, length, pos, sym, ap, ◌∙◌, subst, ltb-false}
 use Rattle.std.proofs.lemmas.List.{get_or_past}
-use Rattle.partition.specs.declared.marks.Marks.{Marks}
-use Rattle.partition.specs.Marking.{marks_of}
 use Rattle.systems.specs.Boxes as plain
 use Rattle.outcomes.specs.declared.record.Record.{Record}
 use Rattle.searches.specs.States.{items_of}

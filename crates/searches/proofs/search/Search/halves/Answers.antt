@@ -1,9 +1,7 @@
-use Rattle.std.proofs.Common.{◌<◌, ◌≤◌, true, length, is_ok, Err, Result, sym, ap, ◌∙◌, rules, leb-false}
+use Rattle.std.proofs.Common.{length, Err, sym, ap, ◌∙◌, leb-false}
 use borrow.Author.Tests.{clash}
 use Rattle.std.proofs.lemmas.Result.{err_from_is_err_and}
 use Rattle.systems.specs.Tables.{table_of}
-use Rattle.outcomes.specs.declared.refusal.SearchRefusal.{SearchRefusal}
-use Rattle.searches.specs.declared.search.Halves.{Halves}
 use Rattle.searches.specs.States.{items_of, started_from, replaced_by}
 use Rattle.searches.proofs.Calls.{split_settled, split_full, place_refused, low_refused, high_refused, halves_made}
 use Rattle.searches.proofs.search.Search.halves.Goals as goal

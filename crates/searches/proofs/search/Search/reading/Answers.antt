@@ -3,7 +3,7 @@ use Rattle.systems.specs.Tables.{table_of}
 use Rattle.systems.proofs.Tabled.{table_proper}
 use Rattle.outcomes.specs.declared.reading.Reading.{Reading}
 use Rattle.outcomes.specs.Promise.{Reached, Kept}
-use Rattle.outcomes.specs.Searching.{State, step, read, reading, reading_of}
+use Rattle.outcomes.specs.Searching.{State, step, read, reading}
 use Rattle.searches.specs.States.{items_of, started_from, state_from, state_of}
 use Rattle.outcomes.proofs.Histories.{promise}
 use Rattle.searches.proofs.search.Search.reading.Goals as goal

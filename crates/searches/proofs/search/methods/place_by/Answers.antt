@@ -1,4 +1,4 @@
-use Rattle.std.proofs.Common.{◌≡◌, List, length, replicate, Some, None, Ok, sym, ap, ◌∙◌}
+use Rattle.std.proofs.Common.{◌≡◌, List, length, replicate, Ok, sym, ap, ◌∙◌}
 use Rattle.algebra.specs.Ends.{Ends}
 use Rattle.systems.specs.Tables.{table_of}
 use Rattle.systems.proofs.Tabled.{table_proper}

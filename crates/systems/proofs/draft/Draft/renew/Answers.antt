@@ -1,5 +1,5 @@
-use Rattle.std.proofs.Common.{◌≡◌, Ok, sym, ap, ◌∙◌, arith, rules}
-use Rattle.systems.specs.Tables.{sized, blank}
+use Rattle.std.proofs.Common.{Ok, sym, ap, ◌∙◌, rules}
+use Rattle.systems.specs.Tables.{sized}
 use Rattle.systems.proofs.Contents.{blank-tabled, accepted_size}
 use Rattle.systems.proofs.draft.Draft.renew.Goals as goal
 

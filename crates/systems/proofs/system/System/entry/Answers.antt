@@ -1,4 +1,4 @@
-use Rattle.std.proofs.Common.{◌≡◌, Some, sym, ap, ◌∙◌, arith}
+use Rattle.std.proofs.Common.{Some, sym, ap, ◌∙◌, arith}
 use Rattle.systems.specs.Entries.{ends_of}
 use Rattle.systems.proofs.Contents.{entry_tabled, no_entry_tabled}
 use Rattle.systems.proofs.system.System.entry.Goals as goal

@@ -1,6 +1,6 @@
-use Rattle.std.proofs.Common.{◌≡◌, ◌<◌, map, length, take, sym, ap, ◌∙◌, arith, length-set}
+use Rattle.std.proofs.Common.{◌≡◌, ◌<◌, map, length, take, ◌∙◌, arith, length-set}
 use Rattle.systems.specs.Entries.{ends_of, middle}
-use Rattle.systems.specs.Tables.{places_of, tabled}
+use Rattle.systems.specs.Tables.{places_of}
 use Rattle.systems.proofs.Walks.{changed_front, changed_rest, midpoint_tabled}
 use Rattle.systems.proofs.system.System.midpoint.Goals as goal
 
