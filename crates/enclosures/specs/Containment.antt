@@ -4,7 +4,7 @@ use Rattle.std.proofs.Common.{arith, mul-pos, sym, ◌∙◌}
 use Rattle.std.proofs.Math.Path.{refl, ap, subst}
 use Rattle.std.proofs.Math.IntN.{*ℤ-zero}
 use Rattle.std.proofs.lemmas.Int.{ints}
-use Rattle.std.specs.List.{AllByRecursion as All}
+use Rattle.std.specs.List.{AllByRecursion}
 use Rattle.algebra.specs.Chaining.{and_then, each, each_with}
 use Rattle.algebra.specs.Ends.{Ends}
 use Rattle.algebra.specs.Ring.{◌⊕◌, ◌⊖◌, ◌⊗◌, lit, ◌⩵◌}
@@ -272,16 +272,16 @@ newest y ys zero p xs z P apart l ok = solved_at_zero y ys p xs z P apart l
 newest y ys (suc k) p xs z P apart l ok = solved_lies y ys (suc k) p xs z (omega arith) P apart l ok
 
 -- ---- the whole walk
-each_holds : (y : ℤ) (ys : List ℤ) (s : ℕ) (p : Row) (rs rest : List Row) → Holds (y ∷ ys) s p → contains_zero (lead p) ≡ false → All (Holds (y ∷ ys) s) rs → each (reduced_of p) rs ≡ Ok rest → All (Holds ys s) rest × (length rest ≡ length rs)
-each_holds y ys s p [] rest P apart all ok = subst (λ (o : List Row). All (Holds ys s) o × (length o ≡ 0)) (ok_value ok) (tt, refl)
+each_holds : (y : ℤ) (ys : List ℤ) (s : ℕ) (p : Row) (rs rest : List Row) → Holds (y ∷ ys) s p → contains_zero (lead p) ≡ false → AllByRecursion (Holds (y ∷ ys) s) rs → each (reduced_of p) rs ≡ Ok rest → AllByRecursion (Holds ys s) rest × (length rest ≡ length rs)
+each_holds y ys s p [] rest P apart all ok = subst (λ (o : List Row). AllByRecursion (Holds ys s) o × (length o ≡ 0)) (ok_value ok) (tt, refl)
 each_holds y ys s p (r ∷ rs) rest P apart all ok =
     let first = then_ok (reduced_of p r) (λ z. and_then (each (reduced_of p) rs) (λ zs. Ok (z ∷ zs))) rest ok in
     let second = then_ok (each (reduced_of p) rs) (λ zs. Ok (first.0 ∷ zs)) rest first.2 in
     let more = each_holds y ys s p rs second.0 P apart all.1 second.1 in
-    subst (λ (o : List Row). All (Holds ys s) o × (length o ≡ suc (length rs))) (ok_value second.2)
+    subst (λ (o : List Row). AllByRecursion (Holds ys s) o × (length o ≡ suc (length rs))) (ok_value second.2)
     ((reduced_holds y ys s p r first.0 P all.0 apart first.1, more.0), ap suc more.1)
 
-pub eliminated_holds : (n : ℕ) (rows : List Row) (x : List ℤ) (s : ℕ) (row : List Ends) → length x ≡ n → length rows ≡ n → All (Holds x s) rows → eliminated n rows ≡ Ok row → Lied s x row
+pub eliminated_holds : (n : ℕ) (rows : List Row) (x : List ℤ) (s : ℕ) (row : List Ends) → length x ≡ n → length rows ≡ n → AllByRecursion (Holds x s) rows → eliminated n rows ≡ Ok row → Lied s x row
 unfolding eliminated
 eliminated_holds zero rows [] s row lx lr all ok = subst (λ (o : List Ends). Lied s [] o) (ok_value ok) tt
 eliminated_holds zero rows (y ∷ ys) s row lx lr all ok = absurd (let z : ◌≡◌ {A = ℕ} 0 1 = cc in omega arith)

@@ -3,7 +3,7 @@ use Rattle.std.specs.Prelude.{◌≡◌, ℕ, zero, suc, ◌+◌, ◌*◌, ◌<�
 use Rattle.std.proofs.Common.{arith, sym, ap, subst, ◌∙◌}
 use Rattle.std.proofs.lemmas.Int.{ints}
 use Rattle.std.proofs.lemmas.List.FromFn.{length-map-range_with_len}
-use Rattle.std.specs.List.{range_with_len, AllByRecursion as All}
+use Rattle.std.specs.List.{range_with_len, AllByRecursion}
 use Rattle.algebra.specs.Chaining.{and_then, each}
 use Rattle.algebra.specs.Ends.{Ends, Ordered, Included}
 use Rattle.algebra.proofs.Chaining.{ok_value, then_ok, guard_ok}
@@ -46,7 +46,7 @@ module _ (n : ℕ) (t s : Table) (ordered : (k : ℕ) → Ordered (ends_at t k))
 
   -- elimination of the narrower table, at the wider one's size
   table_within : (row : List Ends) → eliminated n (map (row_at n s) (range_with_len 0 n)) ≡ Ok row
-      → (row' : List Ends) × (eliminated n (map (row_at n t) (range_with_len 0 n)) ≡ Ok row') × (Nested row' row × All IntervalOfFigures row')
+      → (row' : List Ends) × (eliminated n (map (row_at n t) (range_with_len 0 n)) ≡ Ok row') × (Nested row' row × AllByRecursion IntervalOfFigures row')
   table_within row e = eliminated_within n (map (row_at n t) (range_with_len 0 n)) (map (row_at n s) (range_with_len 0 n)) row tables_nested e
 
 nested_at : (xs ys : List Ends) → Nested xs ys → (j : ℕ) → Included (component_of xs j) (component_of ys j)
@@ -89,7 +89,7 @@ eliminated_long (suc n) (p ∷ rs) row l ok =
     let k : length rs ≡ n = cc in
     ap length (sym (ok_value h.2)) ∙ ap suc (eliminated_long n f.0 g.0 (each_long p rs f.0 f.1 ∙ k) g.1)
 
-all_at : (xs : List Ends) → All IntervalOfFigures xs → (j : ℕ) → j < length xs → IntervalOfFigures (component_of xs j)
+all_at : (xs : List Ends) → AllByRecursion IntervalOfFigures xs → (j : ℕ) → j < length xs → IntervalOfFigures (component_of xs j)
 all_at [] a j h = absurd (omega arith)
 all_at (x ∷ xs) a zero h = a.0
 all_at (x ∷ xs) a (suc j) h = all_at xs a.1 j (omega arith)
@@ -103,5 +103,5 @@ elimination_shaped t row proper e =
     let w = table_within t.size t t proper.ordered (λ k h. included_self (ends_at t k)) row rows in
     let same : w.0 ≡ row = ok_value (sym w.1 ∙ rows) in
     let long = eliminated_long t.size (map (row_at t.size t) (range_with_len 0 t.size)) row (length-map-range_with_len (row_at t.size t) 0 t.size) rows in
-    let all : All IntervalOfFigures row = subst (All IntervalOfFigures) same w.2.1 in
+    let all : AllByRecursion IntervalOfFigures row = subst (AllByRecursion IntervalOfFigures) same w.2.1 in
     record { complete = long; intervals = λ j h. all_at row all j (omega arith) }

@@ -2,7 +2,7 @@
 use Rattle.std.specs.Prelude.{◌≡◌, ℕ, zero, suc, false, List, [], ◌∷◌, drop, pos, Ok, Result, slice_index_or, refl}
 use Rattle.std.proofs.Common.{arith, ap, subst, ◌∙◌}
 use Rattle.std.proofs.lemmas.Int.{ints}
-use Rattle.std.specs.List.{AllByRecursion as All}
+use Rattle.std.specs.List.{AllByRecursion}
 use Rattle.algebra.specs.Chaining.{and_then, each, each_with}
 use Rattle.algebra.specs.Ends.{Ends, Ordered, Included, from_to}
 use Rattle.algebra.proofs.Chaining.{ok_value, then_ok, guard_ok}
@@ -141,7 +141,7 @@ solved_within p p' xs xs' z' np nx ok =
     (products_within p.right p'.right (drop 1 p.coefficients) xs (drop 1 p'.coefficients) xs' s.0 np.right (rest_nested p.coefficients p'.coefficients np.coefficients) nx s.1)
     (λ d id. quotient_within d (lead p) s.0 (lead p') z' id (lead_inner p.coefficients p'.coefficients np.coefficients) s.2)
 
-pub eliminated_within : (n : ℕ) (rs rs' : List Row) (row' : List Ends) → NestedRows rs rs' → eliminated n rs' ≡ Ok row' → Within (eliminated n rs) (λ row. Nested row row' × All IntervalOfFigures row)
+pub eliminated_within : (n : ℕ) (rs rs' : List Row) (row' : List Ends) → NestedRows rs rs' → eliminated n rs' ≡ Ok row' → Within (eliminated n rs) (λ row. Nested row row' × AllByRecursion IntervalOfFigures row)
 unfolding eliminated
 eliminated_within zero rs rs' row' nr ok = ([], refl, (subst (λ (o : List Ends). Nested [] o) (ok_value ok) tt, tt))
 eliminated_within (suc n) [] [] row' nr ok = ([], refl, (subst (λ (o : List Ends). Nested [] o) (ok_value ok) tt, tt))

@@ -5,7 +5,7 @@ use Rattle.std.proofs.Math.Path.{sym}
 use Rattle.std.proofs.lemmas.Int.{ints}
 use Rattle.std.proofs.lemmas.Nat.{mul-le}
 use Rattle.std.proofs.lemmas.List.FromFn.{length-map-range_with_len}
-use Rattle.std.specs.List.{range_with_len, AllByRecursion as All}
+use Rattle.std.specs.List.{range_with_len, AllByRecursion}
 use Rattle.algebra.specs.Ends.{Ends}
 use Rattle.algebra.specs.Order.{Within}
 use Rattle.algebra.specs.Ring.{◌⊗◌, ◌⩵◌}
@@ -28,7 +28,7 @@ lied_map : (s : ℕ) (f : ℕ → ℤ) (g : ℕ → Ends) (a m : ℕ) → ((j : 
 lied_map s f g a zero h = tt
 lied_map s f g a (suc m) h = (h a (omega arith), lied_map s f g (a + 1) m (λ j l. h j (omega arith)))
 
-all_map : {A B : Type 0} (P : A → Type 0) (Q : B → Type 0) (f : ℕ → A) (g : ℕ → B) (a m : ℕ) → ((i : ℕ) → i < a + m → P (f i) → Q (g i)) → All P (map f (range_with_len a m)) → All Q (map g (range_with_len a m))
+all_map : {A B : Type 0} (P : A → Type 0) (Q : B → Type 0) (f : ℕ → A) (g : ℕ → B) (a m : ℕ) → ((i : ℕ) → i < a + m → P (f i) → Q (g i)) → AllByRecursion P (map f (range_with_len a m)) → AllByRecursion Q (map g (range_with_len a m))
 all_map P Q f g a zero h all = tt
 all_map P Q f g a (suc m) h all = (h a (omega arith) all.0, all_map P Q f g (a + 1) m (λ i l. h i (omega arith)) all.1)
 
@@ -72,7 +72,7 @@ module _ (t : Table) (P : PointIn t) where
     solves = solves;
   }
 
-  rows_hold : (x : List ℤ) (s : ℕ) → length x ≡ t.size → Solves (point_rows t.size P.numbers) (pos s) x → All (Holds x s) (map (row_of t) (range_with_len 0 t.size))
+  rows_hold : (x : List ℤ) (s : ℕ) → length x ≡ t.size → Solves (point_rows t.size P.numbers) (pos s) x → AllByRecursion (Holds x s) (map (row_of t) (range_with_len 0 t.size))
   rows_hold x s l all =
       all_map (λ (r : WholeRow). dot r.coefficients x ≡ r.right *ℤ pos s) (Holds x s) (point_row t.size P.numbers) (row_of t) 0 t.size
       (λ i h e. row_holds x s i l (omega arith) e) all

@@ -5,11 +5,11 @@ use Rattle.std.proofs.Math.Path.{refl, sym, ap}
 use Rattle.std.proofs.Common.{subst, ◌∙◌, get_or-set_same, get_or-set_other}
 use Rattle.std.proofs.Math.IntN.{*ℤ-zero}
 use Rattle.std.proofs.lemmas.Int.{ints}
-use Rattle.std.proofs.lemmas.List.FromFn.{length-map-range_with_len, get_or-map-range_with_len as get_d_map_counting}
+use Rattle.std.proofs.lemmas.List.FromFn.{length-map-range_with_len, get_or-map-range_with_len}
 use Rattle.std.proofs.ByRecursion.{All-get_or}
 use Rattle.std.proofs.lemmas.List.{get_or-replicate, length-replicate}
 use Rattle.std.proofs.lemmas.Bool.{cond_both, eqb-true, eqb-false}
-use Rattle.std.specs.List.{range_with_len as counting, AllByRecursion as All}
+use Rattle.std.specs.List.{range_with_len, AllByRecursion}
 use Rattle.algebra.specs.Ends.{Ends, Ordered, Included, from_to}
 use Rattle.algebra.specs.Order.{Within, ceil_quot}
 use Rattle.algebra.specs.Ring.{◌⊗◌, minus, ◌⩵◌}
@@ -37,13 +37,13 @@ use Rattle.enclosures.specs.Roundings.{quotient_small, quotient_narrows}
 row_of : ℕ → ℤ → List Ends
 row_of n a = replicate n (from_to (neg_ℤ a) a)
 
-accepts : (t : Table) (row : List Ends) → row_sums_of t ≡ Ok row → (a : ℤ) × (reach (bound_of t) (pos 0) (counting 0 t.size) ≡ Ok a) × (row_of t.size a ≡ row)
+accepts : (t : Table) (row : List Ends) → row_sums_of t ≡ Ok row → (a : ℤ) × (reach (bound_of t) (pos 0) (range_with_len 0 t.size) ≡ Ok a) × (row_of t.size a ≡ row)
 unfolding row_sums_of greatest_bound row_of
 accepts t row e =
-    let s = then_ok (reach (bound_of t) (pos 0) (counting 0 t.size)) (λ a. Ok (replicate t.size (from_to (neg_ℤ a) a))) row e in
+    let s = then_ok (reach (bound_of t) (pos 0) (range_with_len 0 t.size)) (λ a. Ok (replicate t.size (from_to (neg_ℤ a) a))) row e in
     (s.0, s.1, ok_value s.2)
 
-accepted : (t : Table) (a : ℤ) → reach (bound_of t) (pos 0) (counting 0 t.size) ≡ Ok a → row_sums_of t ≡ Ok (row_of t.size a)
+accepted : (t : Table) (a : ℤ) → reach (bound_of t) (pos 0) (range_with_len 0 t.size) ≡ Ok a → row_sums_of t ≡ Ok (row_of t.size a)
 unfolding row_sums_of greatest_bound row_of
 accepted t a e = rw e refl
 
@@ -63,9 +63,9 @@ bound_accepts t i b e =
     (omega (arith, ints), ok_value g.1)
 
 -- ---- point systems
-all_at : {A : Type 0} (P : A → Type 0) (f : ℕ → A) (n i : ℕ) → i < n → All P (map f (counting 0 n)) → P (f i)
+all_at : {A : Type 0} (P : A → Type 0) (f : ℕ → A) (n i : ℕ) → i < n → AllByRecursion P (map f (range_with_len 0 n)) → P (f i)
 all_at P f n i h all =
-    subst P (get_d_map_counting f 0 n i i (f i) h (omega arith)) (All-get_or P (map f (counting 0 n)) i (f i) (let l = length-map-range_with_len f 0 n in omega arith) all)
+    subst P (get_or-map-range_with_len f 0 n i i (f i) h (omega arith)) (All-get_or P (map f (range_with_len 0 n)) i (f i) (let l = length-map-range_with_len f 0 n in omega arith) all)
 
 -- row i of a point system
 module _ (t : Table) (P : PointIn t) (i : ℕ) (below : i < t.size) where
@@ -77,11 +77,11 @@ module _ (t : Table) (P : PointIn t) (i : ℕ) (below : i < t.size) where
   lies j h = P.inside (i * (t.size + 1) + j) (place_there t.size i j below h)
 
   coefficients : List ℤ
-  coefficients = map own (counting 0 t.size)
+  coefficients = map own (range_with_len 0 t.size)
 
   coefficient : (j : ℕ) → j < t.size → at coefficients j ≡ own j
   unfolding coefficients
-  coefficient j h = get_d_map_counting own 0 t.size j j (pos 0) h (omega arith)
+  coefficient j h = get_or-map-range_with_len own 0 t.size j j (pos 0) h (omega arith)
 
   coefficients_long : length coefficients ≡ t.size
   unfolding coefficients
@@ -89,17 +89,17 @@ module _ (t : Table) (P : PointIn t) (i : ℕ) (below : i < t.size) where
 
   -- bounds on the coefficients without the diagonal one
   sizes : List ℤ
-  sizes = scale (pos P.scale) (map (besides t i) (counting 0 t.size))
+  sizes = scale (pos P.scale) (map (besides t i) (range_with_len 0 t.size))
 
   size_of : (j : ℕ) → j < t.size → at sizes j ≡ pos P.scale *ℤ besides t i j
   unfolding sizes
   size_of j h =
-      at-scale (pos P.scale) (map (besides t i) (counting 0 t.size)) j
-      ∙ ap (λ z. pos P.scale *ℤ z) (get_d_map_counting (besides t i) 0 t.size j j (pos 0) h (omega arith))
+      at-scale (pos P.scale) (map (besides t i) (range_with_len 0 t.size)) j
+      ∙ ap (λ z. pos P.scale *ℤ z) (get_or-map-range_with_len (besides t i) 0 t.size j j (pos 0) h (omega arith))
 
   sizes_long : length sizes ≡ t.size
   unfolding sizes
-  sizes_long = length-scale (pos P.scale) (map (besides t i) (counting 0 t.size)) ∙ length-map-range_with_len (besides t i) 0 t.size
+  sizes_long = length-scale (pos P.scale) (map (besides t i) (range_with_len 0 t.size)) ∙ length-map-range_with_len (besides t i) 0 t.size
 
   others : (j : ℕ) → j < length coefficients → absolute (at (slice_set coefficients i (pos 0)) j) ≤ℤ at sizes j
   others j h =
@@ -116,7 +116,7 @@ module _ (t : Table) (P : PointIn t) (i : ℕ) (below : i < t.size) where
       → (excess_of t i *ℤ absolute (at x i)) ≤ℤ (magnitude (entry_in t i t.size) *ℤ s)
   unfolding excess_of sizes
   peak_bounded x s highest nonneg solves =
-      let ms = map (besides t i) (counting 0 t.size) in
+      let ms = map (besides t i) (range_with_len 0 t.size) in
       let k = pos P.scale in
       let positive = P.positive in
       let long = coefficients_long in
@@ -186,7 +186,7 @@ row_sums_shaped t row proper e =
     shape t.size acc.0 row low high acc.2
 
 -- ---- narrower tables
-sum_below : (f g : ℕ → ℤ) (a m : ℕ) → ((j : ℕ) → j < a + m → f j ≤ℤ g j) → sum (map f (counting a m)) ≤ℤ sum (map g (counting a m))
+sum_below : (f g : ℕ → ℤ) (a m : ℕ) → ((j : ℕ) → j < a + m → f j ≤ℤ g j) → sum (map f (range_with_len a m)) ≤ℤ sum (map g (range_with_len a m))
 unfolding sum
 sum_below f g a zero h = omega (arith, linear)
 sum_below f g a (suc m) h =
@@ -230,7 +230,7 @@ module _ (n : ℕ) (es fs : List Ends) (ordered : (k : ℕ) → Ordered (slice_i
       (omega (arith, ints)) (omega (arith, ints)) c.0 grows in
       (cost_of inner i, bound_made inner i (excess_of inner i) (magnitude (entry_in inner i n)) (cost_of inner i) refl refl (omega (arith, linear)) refl, rw c.1 at narrow)
 
-  tables_narrow : (a : ℤ) → reach (bound_of outer) (pos 0) (counting 0 n) ≡ Ok a → (b : ℤ) × (reach (bound_of inner) (pos 0) (counting 0 n) ≡ Ok b) × (b ≤ℤ a)
+  tables_narrow : (a : ℤ) → reach (bound_of outer) (pos 0) (range_with_len 0 n) ≡ Ok a → (b : ℤ) × (reach (bound_of inner) (pos 0) (range_with_len 0 n) ≡ Ok b) × (b ≤ℤ a)
   tables_narrow a e = reach_narrows (bound_of inner) (bound_of outer) (pos 0) (pos 0) 0 n a bound_narrows (omega (arith, ints)) e
 
 included : (n : ℕ) (b a : ℤ) (row : List Ends) (j : ℕ) → j < n → b ≤ℤ a → row_of n a ≡ row → Included (component_of (row_of n b) j) (component_of row j)

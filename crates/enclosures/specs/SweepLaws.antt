@@ -6,7 +6,7 @@ use Rattle.std.proofs.Math.ListN.{get_or-map}
 use Rattle.std.proofs.lemmas.List.FromFn.{length-map-range_with_len, get_or-map-range_with_len}
 use Rattle.std.proofs.ByRecursion.{All-get_or}
 use Rattle.std.proofs.lemmas.Int.{clamps, ints}
-use Rattle.std.specs.List.{range_with_len, remove, AllByRecursion as All}
+use Rattle.std.specs.List.{range_with_len, remove, AllByRecursion}
 use Rattle.std.specs.Int.{int_min, int_max}
 use Rattle.std.specs.Option.{unwrap_or}
 use Rattle.algebra.specs.Chaining.{and_then}
@@ -100,7 +100,7 @@ unfolding quotient_of
 quotient_apart x y r e = (guard_ok (contains_zero y) DivisorContainsZero (in_span (least_quotient x y) (greatest_quotient x y)) r e).0
 
 -- what holds of a list made by index
-counted_all : {A : Type 0} (Q : A → Type 0) (f : ℕ → A) (n j : ℕ) → j < n → All Q (map f (range_with_len 0 n)) → Q (f j)
+counted_all : {A : Type 0} (Q : A → Type 0) (f : ℕ → A) (n j : ℕ) → j < n → AllByRecursion Q (map f (range_with_len 0 n)) → Q (f j)
 counted_all Q f n j h all =
     let long : j < length (map f (range_with_len 0 n)) = rw length-map-range_with_len h in
     subst Q (get_or-map-range_with_len f 0 n j j (f j) h (omega arith)) (All-get_or Q (map f (range_with_len 0 n)) j (f j) long all)

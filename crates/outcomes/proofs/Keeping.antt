@@ -3,7 +3,7 @@ use Rattle.std.proofs.Common.{◌≡◌, ℕ, zero, suc, ◌+◌, ◌^◌, ◌<�
 use lib.IntN.{*ℤ_comm}
 use lib.Signed.{le_z}
 use borrow.Author.Differences.{ints}
-use Rattle.std.specs.List.{AllByRecursion as All}
+use Rattle.std.specs.List.{AllByRecursion}
 use Rattle.std.proofs.lemmas.Nat.{mul-le}
 use Rattle.std.proofs.ByRecursion.{All-get_or}
 use Rattle.std.proofs.lemmas.List.Sums.{count_by-le-length}
@@ -80,7 +80,7 @@ module _ (v : Table → Verdict) (t : Table) where
   pub record Held (s : Started) : Type 0 where
     pub inside : s.component < t.size
     -- each record
-    pub sound : All (Sound v t s.component s.high) s.waiting
+    pub sound : AllByRecursion (Sound v t s.component s.high) s.waiting
     -- some solution has the high figure
     pub met : Met v t s.component s.high
     -- each solution is above one in a box that waits, or above the high figure

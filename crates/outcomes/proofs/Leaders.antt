@@ -2,7 +2,7 @@
 use Rattle.std.proofs.Common.{◌≡◌, ℕ, zero, suc, ◌+◌, ◌<◌, ◌≤◌, Bool, true, false, cond, ◌⊎◌, List, [], ◌∷◌, ◌++◌, length, get_or, take, drop, ℤ, ◌≤ℤ◌, sum_by, filter, refl, inl, inr, ⊎_elim, arith, below_more}
 use lib.Signed.{lt_z}
 use borrow.Author.Differences.{ints}
-use Rattle.std.specs.List.{remove, AllByRecursion as All}
+use Rattle.std.specs.List.{remove, AllByRecursion}
 use Rattle.std.proofs.ByRecursion.{All-append, All-take, All-drop, All-from_get_or}
 use Rattle.std.proofs.lemmas.List.Sums.{sum_by-cons}
 use Rattle.outcomes.specs.declared.record.Record.{Record}
@@ -31,7 +31,7 @@ any_removed P (x ∷ xs) (suc i) d (inl h) = inr (inl h)
 any_removed P (x ∷ xs) (suc i) d (inr h) = ⊎_elim (λ r. inl r) (λ r. inr (inr r)) (any_removed P xs i d h)
 
 -- it passes the test, or it is an element that does not
-pub any_kept : {X : Type 0} (test : X → Bool) (P Q : X → Type 0) (R : Type 0) → ((x : X) → Q x → P x → test x ≡ false → R) → (xs : List X) → All Q xs → Any P xs → Any P (filter test xs) ⊎ R
+pub any_kept : {X : Type 0} (test : X → Bool) (P Q : X → Type 0) (R : Type 0) → ((x : X) → Q x → P x → test x ≡ false → R) → (xs : List X) → AllByRecursion Q xs → Any P xs → Any P (filter test xs) ⊎ R
 any_kept test P Q R f [] q h = absurd h
 any_kept {X} test P Q R f (x ∷ xs) q h = by_test (test x) refl h (λ k. any_kept test P Q R f xs q.1 k)
   where
@@ -41,7 +41,7 @@ any_kept {X} test P Q R f (x ∷ xs) q h = by_test (test x) refl h (λ k. any_ke
     by_test false e (inl k) rest = inr (f x q.0 k e)
     by_test false e (inr k) rest = rest k
 
-pub any_pick : {X : Type 0} (P Q : X → Type 0) (R : Type 0) → ((x : X) → Q x → P x → R) → (xs : List X) → All Q xs → Any P xs → R
+pub any_pick : {X : Type 0} (P Q : X → Type 0) (R : Type 0) → ((x : X) → Q x → P x → R) → (xs : List X) → AllByRecursion Q xs → Any P xs → R
 any_pick P Q R f [] q h = absurd h
 any_pick P Q R f (x ∷ xs) q (inl h) = f x q.0 h
 any_pick P Q R f (x ∷ xs) q (inr h) = any_pick P Q R f xs q.1 h
@@ -50,10 +50,10 @@ pub any_there : {X : Type 0} (P : X → Type 0) (xs : List X) → Any P xs → 0
 any_there P [] h = absurd h
 any_there P (x ∷ xs) h = omega arith
 
-pub all_removed : {X : Type 0} (P : X → Type 0) (xs : List X) (i : ℕ) → All P xs → All P (remove xs i)
+pub all_removed : {X : Type 0} (P : X → Type 0) (xs : List X) (i : ℕ) → AllByRecursion P xs → AllByRecursion P (remove xs i)
 all_removed P xs i h = All-append P (take i xs) (drop (suc i) xs) (All-take P i xs h) (All-drop P (suc i) xs h)
 
-pub all_both : {X : Type 0} (P Q : X → Type 0) (xs : List X) → All P xs → All Q xs → All (λ x. P x × Q x) xs
+pub all_both : {X : Type 0} (P Q : X → Type 0) (xs : List X) → AllByRecursion P xs → AllByRecursion Q xs → AllByRecursion (λ x. P x × Q x) xs
 all_both P Q [] h k = tt
 all_both P Q (x ∷ xs) h k = ((h.0, k.0), all_both P Q xs h.1 k.1)
 
@@ -70,7 +70,7 @@ length-least f one [] = omega arith
 length-least f one (x ∷ xs) = let rest = length-least f one xs in omega (arith, one x, sum_by-cons f x xs)
 
 -- where the sum is not above the length every part is one
-pub all_one : {X : Type 0} (f : X → ℕ) → ((x : X) → 1 ≤ f x) → (xs : List X) → sum_by f xs ≤ length xs → All (λ x. f x ≡ 1) xs
+pub all_one : {X : Type 0} (f : X → ℕ) → ((x : X) → 1 ≤ f x) → (xs : List X) → sum_by f xs ≤ length xs → AllByRecursion (λ x. f x ≡ 1) xs
 all_one f one [] h = tt
 all_one f one (x ∷ xs) h =
     let least = length-least f one xs in
@@ -130,6 +130,6 @@ pub leading_there : (ws : List Record) → 0 < length ws → leading_at ws < len
 unfolding leading_at
 leading_there ws h = below_there ws (length ws) h
 
-pub leading-least : (ws : List Record) → All (λ w. (leading ws).low ≤ℤ w.low) ws
+pub leading-least : (ws : List Record) → AllByRecursion (λ w. (leading ws).low ≤ℤ w.low) ws
 unfolding leading_at
 leading-least ws = All-from_get_or (λ w. (leading ws).low ≤ℤ w.low) ws nothing (λ k h. below_least ws (length ws) k h)

@@ -2,7 +2,7 @@
 use Rattle.std.proofs.Common.{◌≡◌, ℕ, ◌+◌, ◌<◌, true, false, List, [], ◌∷◌, ◌++◌, length, ℤ, pos, ◌*ℤ◌, ◌≤ℤ◌, ◌<ℤ◌, Some, None, Ok, Err, sum_by, filter, Option, sym, refl, ap, ◌∙◌, subst, inl, inr, ⊎_elim, arith}
 use borrow.Author.Differences.{ints}
 use Rattle.std.specs.Int.{int_min}
-use Rattle.std.specs.List.{remove, AllByRecursion as All}
+use Rattle.std.specs.List.{remove, AllByRecursion}
 use Rattle.std.proofs.lemmas.List.Edits.{length-remove}
 use Rattle.std.proofs.ByRecursion.{All-append, All-get_or, all_kept_by, All-weaker}
 use Rattle.std.proofs.lemmas.List.{length-append}
@@ -86,7 +86,7 @@ module _ (v : Table → Verdict) (t : Table) (proper : Proper t) (solvable : Sol
         (λ rest. any_left near (remove ws (leading_at ws)) pair rest)
         (any_removed near ws (leading_at ws) nothing some)
 
-    all_sound : (f : ℤ) → f ≤ℤ s.high → f ≤ℤ a.high → f ≤ℤ b.high → All (Sound v t s.component f) (opened s.waiting a b)
+    all_sound : (f : ℤ) → f ≤ℤ s.high → f ≤ℤ a.high → f ≤ℤ b.high → AllByRecursion (Sound v t s.component f) (opened s.waiting a b)
     all_sound f below la lb =
         let c = s.component in
         let ws = s.waiting in
@@ -94,7 +94,7 @@ module _ (v : Table → Verdict) (t : Table) (proper : Proper t) (solvable : Sol
         (all_removed (Sound v t c f) ws (leading_at ws) (All-weaker (Sound v t c s.high) (Sound v t c f) (λ w q. sound_below v t c s.high f w below q) ws held.sound))
         (ca.sound f la, (cb.sound f lb, tt))
 
-    all_above : All (λ w. (leading s.waiting).low ≤ℤ w.low) (opened s.waiting a b)
+    all_above : AllByRecursion (λ w. (leading s.waiting).low ≤ℤ w.low) (opened s.waiting a b)
     all_above =
         let ws = s.waiting in
         All-append (λ w. (leading ws).low ≤ℤ w.low) (remove ws (leading_at ws)) (a.waiting ∷ b.waiting ∷ [])
