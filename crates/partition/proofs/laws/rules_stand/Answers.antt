@@ -1,6 +1,6 @@
 use Rattle.systems.specs.Tables.{places_of}
 use Rattle.partition.specs.Choosing.{wide_at, width_at, weight_at, widest_of, heaviest_of}
-use Rattle.partition.specs.Scans.{greatest_below}
+use Rattle.partition.proofs.Scans.{greatest_below}
 use Rattle.partition.proofs.laws.rules_stand.Goals as goal
 
 pub returns : goal.returns

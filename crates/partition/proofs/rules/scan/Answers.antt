@@ -5,7 +5,7 @@ use Rattle.partition.specs.Scanning.{Keeps}
 use Rattle.grains.specs.Arithmetic.{ends_of}
 use Rattle.systems.specs.Tables.{table_of}
 use Rattle.partition.specs.Choosing.{wide_at, better, best_below}
-use Rattle.partition.specs.Scans.{keeps_wide, keeps_thin}
+use Rattle.partition.proofs.Scans.{keeps_wide, keeps_thin}
 use Rattle.partition.proofs.rules.scan.Goals as goal
 use Rattle.partition.proofs.rules.scan.Goals.{then-is_wide, else-is_wide}
 

@@ -8,12 +8,11 @@ pub loop-place-preserved : goal.loop-place-preserved
 loop-place-preserved c =
     let l = c.loop-place in
     let s = c.args.self.now in
-    let e = c.index-entries-place.result in
     let h : l.place < length l.entries = omega arith in
     let h' : l.place < length s.entries = omega (arith, s.full) in (
       simp length-set l.invariant.0,
-      changed_front ends_of (λ e. middle (ends_of e)) l.entries s.entries l.place e c.midpoint.result h h' l.invariant.1 l.invariant.2 c.midpoint.ensures,
-      changed_rest ends_of (λ e. middle (ends_of e)) l.entries s.entries l.place e c.midpoint.result h h' l.invariant.1 l.invariant.2 c.midpoint.ensures,
+      changed_front ends_of (λ e. middle (ends_of e)) l.entries s.entries l.place _ c.midpoint.result h h' l.invariant.1 l.invariant.2 c.midpoint.ensures,
+      changed_rest ends_of (λ e. middle (ends_of e)) l.entries s.entries l.place _ c.midpoint.result h h' l.invariant.1 l.invariant.2 c.midpoint.ensures,
     )
 
 pub returns : goal.returns
