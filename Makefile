@@ -1,7 +1,8 @@
 .PHONY: bench demo lib test
 
-# Proves and builds the program, and runs it on the shipped job.
+# Proves and builds the two programs that read a job, and runs them on the shipped one.
 demo:
+	@cd crates/enclose && rt run < stdin 2>/dev/null
 	@cd crates/lowline && rt run < stdin 2>/dev/null
 
 # The static library for hosts and its header, in dist/. The toolchain's C support is merged in, so a host links one archive.

@@ -1,8 +1,8 @@
 -- Results one after another, as `?` chains them in code.
---     and_then r f        f of the value of r, or the error of r
+--     and_then r f       f of the value of r, or the error of r
 --     Leaves r x o       a call that answered r and left x did what o says: it gave o's error, or x is o's value
 --     each f xs          f of each element in turn, or the first error
---     each_with f xs ys   f of the elements side by side, or the first error; it ends with the shorter list
+--     each_with f xs ys  f of the elements side by side, or the first error; it ends with the shorter list
 use Rattle.std.specs.Prelude.{◌≡◌, List, [], ◌∷◌, Ok, Err, Result}
 
 abbrev pub and_then : {A B E : Type 0} → Result A E → (A → Result B E) → Result B E

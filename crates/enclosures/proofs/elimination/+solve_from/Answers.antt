@@ -11,14 +11,14 @@ returns-then-k-n t c = eliminated_all c.args.k c.args.n c.args.lines.now c.args.
 
 pub returns-then-contains_zero : goal.returns-then-contains_zero
 returns-then-contains_zero t c =
-    stops-at_pivot c.args.k c.args.n (omega arith) c.requires.few c.args.lines.now c.told-lines c.index-lines-k.result c.index-pivot-k.result (sym c.if-contains_zero.ensures)
+    stops-at_pivot c.args.k c.args.n (omega arith) c.requires.few c.args.lines.now c.told-lines c.index-lines-k.result _ (sym c.if-contains_zero.ensures)
 
 pub returns-in_err-clear_column : goal.returns-in_err-clear_column
 returns-in_err-clear_column t c =
     let below : c.args.k < c.args.n = omega arith in
     let h = rw c.in_err-clear_column.was at c.clear_column.ensures in
     let q = err_from_is_err_and c.from_residual.result c.from_residual.ensures.1 in
-    rw (q.1, q.2) (stops_in_column c.args.k c.args.n below c.requires.few c.args.lines.now c.told-lines c.index-lines-k.result c.index-pivot-k.result (sym c.if-contains_zero.ensures) _ h)
+    rw (q.1, q.2) (stops_in_column c.args.k c.args.n below c.requires.few c.args.lines.now c.told-lines c.index-lines-k.result _ (sym c.if-contains_zero.ensures) _ h)
 
 pub returns-in_err-solve_from : goal.returns-in_err-solve_from
 returns-in_err-solve_from t c =
@@ -26,7 +26,7 @@ returns-in_err-solve_from t c =
     let h = rw c.in_ok-clear_column.was at c.clear_column.ensures in
     let i = rw c.in_err-solve_from.was at c.solve_from.ensures in
     let q = err_from_is_err_and c.from_residual-in_err-solve_from.result c.from_residual-in_err-solve_from.ensures.1 in
-    rw (q.1, q.2) (stops_below c.args.k c.args.n below c.requires.few c.args.lines.now c.told-lines c.index-lines-k.result c.index-pivot-k.result (sym c.if-contains_zero.ensures) (lined (c.args.k + 1) c.args.n c.clear_column.new.lines) h _ i)
+    rw (q.1, q.2) (stops_below c.args.k c.args.n below c.requires.few c.args.lines.now c.told-lines c.index-lines-k.result _ (sym c.if-contains_zero.ensures) (lined (c.args.k + 1) c.args.n c.clear_column.new.lines) h _ i)
 
 pub returns-in_err-components : goal.returns-in_err-components
 returns-in_err-components t c =
@@ -34,7 +34,7 @@ returns-in_err-components t c =
     let h = rw c.in_ok-clear_column.was at c.clear_column.ensures in
     let i = rw c.in_ok-solve_from.was at c.solve_from.ensures in
     let q = err_from_is_err_and c.from_residual-in_err-components.result c.from_residual-in_err-components.ensures.1 in
-    rw (q.1, q.2) (stops-at_solution c.args.k c.args.n below c.requires.few c.args.lines.now c.told-lines c.index-lines-k.result c.index-pivot-k.result (sym c.if-contains_zero.ensures) (lined (c.args.k + 1) c.args.n c.clear_column.new.lines) h
+    rw (q.1, q.2) (stops-at_solution c.args.k c.args.n below c.requires.few c.args.lines.now c.told-lines c.index-lines-k.result _ (sym c.if-contains_zero.ensures) (lined (c.args.k + 1) c.args.n c.clear_column.new.lines) h
     (between (c.args.k + 1) c.args.n (map ends_of c.solve_from.new.components)) _ i (sym c.in_err-components.ensures))
 
 pub returns : goal.returns
@@ -45,6 +45,6 @@ returns t c =
     let long : c.args.n ≤ length xs = omega (arith, c.solve_from.array_long2) in
     let h = rw c.in_ok-clear_column.was at c.clear_column.ensures in
     let i = rw c.in_ok-solve_from.was at c.solve_from.ensures in
-    solves c.args.k c.args.n below c.requires.few c.args.lines.now c.told-lines c.index-lines-k.result c.index-pivot-k.result (sym c.if-contains_zero.ensures) (lined (c.args.k + 1) c.args.n c.clear_column.new.lines) h
+    solves c.args.k c.args.n below c.requires.few c.args.lines.now c.told-lines c.index-lines-k.result _ (sym c.if-contains_zero.ensures) (lined (c.args.k + 1) c.args.n c.clear_column.new.lines) h
     (between (c.args.k + 1) c.args.n (map ends_of xs)) (ends_of y) i (sym c.in_ok-components.ensures)
     ∙ ap Ok (sym (solution_fronted c.args.k c.args.n xs y below long))

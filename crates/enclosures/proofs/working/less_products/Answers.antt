@@ -11,7 +11,7 @@ loop-j-preserved c =
     let xs = c.args.components.now in
     let long : c.args.to ≤ length cs = omega (arith, c.args.line.now.full) in
     let long' : c.args.to ≤ length xs = search rules in
-    l.invariant ∙ products_more (ends_of l.rest) cs xs l.j c.args.to c.index-line-j.result c.index-components-j.result (omega arith) long long' (ends_of c.in_ok-rest.rest) c.in_ok-rest.ensures
+    l.invariant ∙ products_more (ends_of l.rest) cs xs l.j c.args.to c.index-line-j.result _ (omega arith) long long' (ends_of c.in_ok-rest.rest) c.in_ok-rest.ensures
 
 pub returns : goal.returns
 returns c =
@@ -26,6 +26,6 @@ returns-in_err-rest c =
     let xs = c.args.components.now in
     let long : c.args.to ≤ length cs = omega (arith, c.args.line.now.full) in
     let long' : c.args.to ≤ length xs = search rules in
-    let stops = l.invariant ∙ products_refused (ends_of l.rest) cs xs l.j c.args.to c.index-line-j.result c.index-components-j.result (omega arith) long long' _ c.in_err-rest.ensures in
+    let stops = l.invariant ∙ products_refused (ends_of l.rest) cs xs l.j c.args.to c.index-line-j.result _ (omega arith) long long' _ c.in_err-rest.ensures in
     let q = err_from_is_err_and c.from_residual.result c.from_residual.ensures.1 in
     rw (q.1, q.2) (sym stops)
