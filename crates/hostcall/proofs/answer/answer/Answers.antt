@@ -39,7 +39,7 @@ returns-in_err-report c =
     let o = asked_of job c.args.component c.args.budget c.args.room in
     let told = c.in_err-report.ensures.value in
     record {
-      value = subst (λ (r : Result Report CallRefusal). Asked r o) (sym q.1) (asked_refused job c.args.component c.args.budget c.args.room t e q.0.number q.2 told (sym c.in_ok-system.ensures) c.if-room-lt-FRAME.false);
+      value = subst (λ (r : Result Report CallRefusal). Asked r o) (sym q.1) (asked_refused job c.args.component c.args.budget c.args.room t e q.0.number q.2 told (sym c.in_ok-system.ensures) (omega arith));
       holds = subst (λ (r : Result Report CallRefusal). Sound r job c.args.component) (sym q.1) tt;
       named = subst (λ (r : Result Report CallRefusal). Named r) (sym q.1) (no_figure_named job c.args.component c.args.budget c.args.room t e q.0.number q.2 told);
     }
