@@ -5,7 +5,7 @@ use Rattle.std.specs.Int.{int_min, int_max}
 use Rattle.std.proofs.lemmas.Int.{by_lt_z, clamps}
 use Rattle.algebra.specs.Ring.{◌⊕◌, ◌⊖◌, ◌⊗◌, minus, lit, ◌⩵◌}
 use Rattle.algebra.specs.Order.{Within, least, greatest, floor_div, ceil_div, floor_quot, ceil_quot}
-use Rattle.algebra.proofs.Ring.{linear, solve, *ℤ-negℤ, negℤ-*ℤ}
+use Rattle.algebra.proofs.Ring.{linear, solve, *ℤ-neg_ℤ, neg_ℤ-*ℤ}
 
 -- ---- signs
 
@@ -142,21 +142,21 @@ pub ceil_div_high : (z : ℤ) (k : ℕ) → 0 < k → z ≤ℤ (pos k *ℤ ceil_
 unfolding ceil_div
 ceil_div_high z k h =
     let l = floor_div_low (neg_ℤ z) k h in
-    let e = *ℤ-negℤ (pos k) (floor_div (neg_ℤ z) k) in
+    let e = *ℤ-neg_ℤ (pos k) (floor_div (neg_ℤ z) k) in
     omega (arith, linear)
 
 pub ceil_div_low : (z : ℤ) (k : ℕ) → 0 < k → (pos k *ℤ ceil_div z k) <ℤ (z +ℤ pos k)
 unfolding ceil_div
 ceil_div_low z k h =
     let l = floor_div_high (neg_ℤ z) k h in
-    let e = *ℤ-negℤ (pos k) (floor_div (neg_ℤ z) k) in
+    let e = *ℤ-neg_ℤ (pos k) (floor_div (neg_ℤ z) k) in
     omega (arith, linear)
 
 -- it is the least such number
 pub ceil_div_best : (z : ℤ) (k : ℕ) (q : ℤ) → 0 < k → z ≤ℤ (pos k *ℤ q) → ceil_div z k ≤ℤ q
 unfolding ceil_div
 ceil_div_best z k q h l =
-    let e = *ℤ-negℤ (pos k) q in
+    let e = *ℤ-neg_ℤ (pos k) q in
     let b = floor_div_best (neg_ℤ z) k (neg_ℤ q) h (omega (arith, linear)) in
     omega (arith, linear)
 
@@ -175,7 +175,7 @@ unfolding floor_quot
 floor_quot_low_neg z (pos k) h = omega (arith, linear)
 floor_quot_low_neg z (negsuc k) h =
     let l = floor_div_low (neg_ℤ z) (suc k) (omega arith) in
-    let e = negℤ-*ℤ (pos (suc k)) (floor_div (neg_ℤ z) (suc k)) in
+    let e = neg_ℤ-*ℤ (pos (suc k)) (floor_div (neg_ℤ z) (suc k)) in
     omega (arith, linear)
 
 pub floor_quot_high : (z d : ℤ) → pos 0 <ℤ d → z <ℤ (d *ℤ floor_quot z d +ℤ d)
@@ -188,7 +188,7 @@ unfolding floor_quot
 floor_quot_high_neg z (pos k) h = omega (arith, linear)
 floor_quot_high_neg z (negsuc k) h =
     let l = floor_div_high (neg_ℤ z) (suc k) (omega arith) in
-    let e = negℤ-*ℤ (pos (suc k)) (floor_div (neg_ℤ z) (suc k)) in
+    let e = neg_ℤ-*ℤ (pos (suc k)) (floor_div (neg_ℤ z) (suc k)) in
     omega (arith, linear)
 
 -- it is the greatest such number
@@ -201,7 +201,7 @@ pub floor_quot_best_neg : (z d q : ℤ) → d <ℤ pos 0 → z ≤ℤ (d *ℤ q)
 unfolding floor_quot
 floor_quot_best_neg z (pos k) q h l = omega (arith, linear)
 floor_quot_best_neg z (negsuc k) q h l =
-    let e = negℤ-*ℤ (pos (suc k)) q in
+    let e = neg_ℤ-*ℤ (pos (suc k)) q in
     floor_div_best (neg_ℤ z) (suc k) q (omega arith) (omega (arith, linear))
 
 pub floor_quot_mono : (z w d : ℤ) → pos 0 <ℤ d → z ≤ℤ w → floor_quot z d ≤ℤ floor_quot w d
@@ -214,42 +214,42 @@ pub ceil_quot_high : (z d : ℤ) → pos 0 <ℤ d → z ≤ℤ (d *ℤ ceil_quot
 unfolding ceil_quot
 ceil_quot_high z d h =
     let l = floor_quot_low (neg_ℤ z) d h in
-    let e = *ℤ-negℤ d (floor_quot (neg_ℤ z) d) in
+    let e = *ℤ-neg_ℤ d (floor_quot (neg_ℤ z) d) in
     omega (arith, linear)
 
 pub ceil_quot_high_neg : (z d : ℤ) → d <ℤ pos 0 → (d *ℤ ceil_quot z d) ≤ℤ z
 unfolding ceil_quot
 ceil_quot_high_neg z d h =
     let l = floor_quot_low_neg (neg_ℤ z) d h in
-    let e = *ℤ-negℤ d (floor_quot (neg_ℤ z) d) in
+    let e = *ℤ-neg_ℤ d (floor_quot (neg_ℤ z) d) in
     omega (arith, linear)
 
 pub ceil_quot_low : (z d : ℤ) → pos 0 <ℤ d → (d *ℤ ceil_quot z d) <ℤ (z +ℤ d)
 unfolding ceil_quot
 ceil_quot_low z d h =
     let l = floor_quot_high (neg_ℤ z) d h in
-    let e = *ℤ-negℤ d (floor_quot (neg_ℤ z) d) in
+    let e = *ℤ-neg_ℤ d (floor_quot (neg_ℤ z) d) in
     omega (arith, linear)
 
 pub ceil_quot_low_neg : (z d : ℤ) → d <ℤ pos 0 → (z +ℤ d) <ℤ (d *ℤ ceil_quot z d)
 unfolding ceil_quot
 ceil_quot_low_neg z d h =
     let l = floor_quot_high_neg (neg_ℤ z) d h in
-    let e = *ℤ-negℤ d (floor_quot (neg_ℤ z) d) in
+    let e = *ℤ-neg_ℤ d (floor_quot (neg_ℤ z) d) in
     omega (arith, linear)
 
 -- it is the least such number
 pub ceil_quot_best : (z d q : ℤ) → pos 0 <ℤ d → z ≤ℤ (d *ℤ q) → ceil_quot z d ≤ℤ q
 unfolding ceil_quot
 ceil_quot_best z d q h l =
-    let e = *ℤ-negℤ d q in
+    let e = *ℤ-neg_ℤ d q in
     let b = floor_quot_best (neg_ℤ z) d (neg_ℤ q) h (omega (arith, linear)) in
     omega (arith, linear)
 
 pub ceil_quot_best_neg : (z d q : ℤ) → d <ℤ pos 0 → (d *ℤ q) ≤ℤ z → ceil_quot z d ≤ℤ q
 unfolding ceil_quot
 ceil_quot_best_neg z d q h l =
-    let e = *ℤ-negℤ d q in
+    let e = *ℤ-neg_ℤ d q in
     let b = floor_quot_best_neg (neg_ℤ z) d (neg_ℤ q) h (omega (arith, linear)) in
     omega (arith, linear)
 

@@ -6,7 +6,7 @@ use Rattle.std.proofs.lemmas.Int.{by_lt_z, clamps}
 use Rattle.algebra.specs.Ends.{Ends, from_to}
 use Rattle.algebra.specs.Order.{floor_quot, ceil_quot}
 use Rattle.algebra.specs.Ring.{◌⊖◌, ◌⊗◌, minus, lit, ◌⩵◌}
-use Rattle.algebra.proofs.Ring.{linear, solve, negℤ-*ℤ}
+use Rattle.algebra.proofs.Ring.{linear, solve, neg_ℤ-*ℤ}
 use Rattle.algebra.proofs.Order.{product_nonneg, product_positive, times_mono, mono_times, cancel-≤, times_above, times_below, product_above, product_below, floor_quot_low, ceil_quot_high, floor_quot_above, floor_quot_above_neg, ceil_quot_below, ceil_quot_below_neg}
 use Rattle.grains.specs.Arithmetic.{in_span, times, least_product, greatest_product, product_of, difference_of, contains_zero, quotient_down, quotient_up, least_quotient, greatest_quotient}
 use Rattle.grains.specs.Points.{Lies, sign, ProductHolds, DifferenceHolds, DivisorApart, QuotientHolds, CommonHolds}
@@ -97,7 +97,7 @@ module _ (g yl yh u b : ℤ) (some : pos 0 <ℤ g) (us : pos 0 <ℤ u) (r : (yl 
   below h = by_lt_z b (pos 0) (λ l. l) (λ l.
       let c = product_positive (neg_ℤ yh) u (omega (arith, linear)) us in
       let d = times_mono g (pos 0) b (omega (arith, linear)) l in
-      absurd (omega (arith, linear, *ℤ-zero g, negℤ-*ℤ yh u)))
+      absurd (omega (arith, linear, *ℤ-zero g, neg_ℤ-*ℤ yh u)))
 
   -- what is known of z m at both ends of the divisor is known at the point
   module _ (t a v m : ℤ) (tn : pos 0 ≤ℤ t) where

@@ -6,7 +6,7 @@ use Rattle.std.proofs.lemmas.Nat.{mul-le}
 use Rattle.std.proofs.lemmas.Int.{clamps}
 use Rattle.algebra.specs.Ends.{Ends}
 use Rattle.algebra.specs.Order.{floor_quot, ceil_quot}
-use Rattle.algebra.proofs.Ring.{linear, negℤ-*ℤ}
+use Rattle.algebra.proofs.Ring.{linear, neg_ℤ-*ℤ}
 use Rattle.algebra.proofs.Order.{floor_quot_low, floor_quot_low_neg, ceil_quot_high, ceil_quot_high_neg, cancel-≤}
 use Rattle.grains.specs.declared.interval.Interval.{Interval}
 use Rattle.grains.specs.Arithmetic.{Figure, ends_of, times, least_of, greatest_of, least_product, greatest_product, contains_zero, quotient_down, quotient_up, least_quotient, greatest_quotient}
@@ -87,8 +87,8 @@ floor_ceil_negative a d p =
   where
     turned : (x y e : ℤ) → e <ℤ pos 0 → (e *ℤ y) ≤ℤ (e *ℤ x) → x ≤ℤ y
     turned x y e q h =
-        let s = negℤ-*ℤ e x in
-        let t = negℤ-*ℤ e y in
+        let s = neg_ℤ-*ℤ e x in
+        let t = neg_ℤ-*ℤ e y in
         cancel-≤ (neg_ℤ e) x y (omega (arith, linear)) (omega (arith, linear))
 
 floor_ceil_at : (a d : ℤ) → 0 < nat_abs d → floor_quot a d ≤ℤ ceil_quot a d
