@@ -90,9 +90,9 @@ eliminated_long (suc n) (p ∷ rs) row l ok =
     ap length (sym (ok_value h.2)) ∙ ap suc (eliminated_long n f.0 g.0 (each_long p rs f.0 f.1 ∙ k) g.1)
 
 all_at : (xs : List Ends) → AllByRecursion IntervalOfFigures xs → (j : ℕ) → j < length xs → IntervalOfFigures (component_of xs j)
-all_at [] a j h = absurd (omega arith)
-all_at (x ∷ xs) a zero h = a.0
-all_at (x ∷ xs) a (suc j) h = all_at xs a.1 j (omega arith)
+all_at [] figures j h = absurd (omega arith)
+all_at (x ∷ xs) figures zero h = figures.0
+all_at (x ∷ xs) figures (suc j) h = all_at xs figures.1 j (omega arith)
 
 included_self : (e : Ends) → Included e e
 included_self e = record { from = omega (arith, ints); to = omega (arith, ints) }

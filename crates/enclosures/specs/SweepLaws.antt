@@ -270,17 +270,17 @@ module _ (v : Table → Verdict) (shaped : Shaped v) (solvable : Solvable v) (ag
 
   pub sweep_shaped : Shaped (sweep_of v)
   sweep_shaped t row proper e =
-      let a = accepts t row e in
-      let w = shaped t a.0 proper a.1 in
-      let long = swept_long t.size 0 t a.0 in
-      let each = figures_swept t.size 0 t a.0 (omega (arith, w.complete)) (λ j h. w.intervals j (omega (arith, w.complete))) in
-      subst (RowFor t.size) a.2 (record { complete = long ∙ w.complete; intervals = λ j h. each j (omega (arith, long, w.complete)) })
+      let base = accepts t row e in
+      let w = shaped t base.0 proper base.1 in
+      let long = swept_long t.size 0 t base.0 in
+      let each = figures_swept t.size 0 t base.0 (omega (arith, w.complete)) (λ j h. w.intervals j (omega (arith, w.complete))) in
+      subst (RowFor t.size) base.2 (record { complete = long ∙ w.complete; intervals = λ j h. each j (omega (arith, long, w.complete)) })
 
   pub sweep_solvable : Solvable (sweep_of v)
-  sweep_solvable t row proper e = let a = accepts t row e in solvable t a.0 proper a.1
+  sweep_solvable t row proper e = let base = accepts t row e in solvable t base.0 proper base.1
 
   pub sweep_agreed : Agreed (sweep_of v)
-  sweep_agreed t row proper e = let a = accepts t row e in agreed t a.0 proper a.1
+  sweep_agreed t row proper e = let base = accepts t row e in agreed t base.0 proper base.1
 
   -- the row of the method below, and every solution in it
   lied_below : (t : Table) (r : List Ends) → Proper t → v t ≡ Ok r → (P : PointIn t) (d : ℕ) (p : List ℤ) → SolutionOf t P d p → Lied d p r
@@ -290,22 +290,22 @@ module _ (v : Table → Verdict) (shaped : Shaped v) (solvable : Solvable v) (ag
 
   pub sweep_enclosed : Enclosed (sweep_of v)
   sweep_enclosed t row proper e P d p solution j h =
-      let a = accepts t row e in
-      let l = swept_lies t P d p solution t.size 0 a.0 (omega arith) (lied_below t a.0 proper a.1 P d p solution) in
-      let k = lied_at d p (swept_from t.size 0 t a.0) l j (omega (arith, solution.size)) in
-      subst (λ (r : List Ends). AtMost (component_of r j).low d p j × AtLeast (component_of r j).high d p j) a.2 (k.from, k.to)
+      let base = accepts t row e in
+      let l = swept_lies t P d p solution t.size 0 base.0 (omega arith) (lied_below t base.0 proper base.1 P d p solution) in
+      let k = lied_at d p (swept_from t.size 0 t base.0) l j (omega (arith, solution.size)) in
+      subst (λ (r : List Ends). AtMost (component_of r j).low d p j × AtLeast (component_of r j).high d p j) base.2 (k.from, k.to)
 
   pub sweep_narrows : methods.Narrowing (sweep_of v)
   sweep_narrows t s row proper proper' narrower e =
-      let a = accepts s row e in
-      let b = narrows t s a.0 proper proper' narrower a.1 in
+      let base = accepts s row e in
+      let b = narrows t s base.0 proper proper' narrower base.1 in
       let same = narrower.same_size in
       let w = shaped t b.0 proper b.1 in
-      let w' = shaped s a.0 proper' a.1 in
+      let w' = shaped s base.0 proper' base.1 in
       let P = lowest t proper in
       let x = solvable t b.0 proper b.1 P in
-      let long : length b.0 ≡ length a.0 = w.complete ∙ same ∙ sym w'.complete in
-      let nested = nested_from b.0 a.0 long (λ j h. record { ordered = (w.intervals j (omega (arith, w.complete))).0; included = b.2 j (omega (arith, w.complete)) }) in
-      let swept = swept_nested t s same (rows t s proper narrower) P x.0 x.1 x.2 t.size 0 b.0 a.0 (omega arith) (lied_below t b.0 proper b.1 P x.0 x.1 x.2) nested in
-      let within : Nested (swept_from t.size 0 t b.0) row = subst (λ (r : List Ends). Nested (swept_from t.size 0 t b.0) r) (ap (λ n. swept_from n 0 s a.0) same ∙ a.2) swept in
+      let long : length b.0 ≡ length base.0 = w.complete ∙ same ∙ sym w'.complete in
+      let nested = nested_from b.0 base.0 long (λ j h. record { ordered = (w.intervals j (omega (arith, w.complete))).0; included = b.2 j (omega (arith, w.complete)) }) in
+      let swept = swept_nested t s same (rows t s proper narrower) P x.0 x.1 x.2 t.size 0 b.0 base.0 (omega arith) (lied_below t b.0 proper b.1 P x.0 x.1 x.2) nested in
+      let within : Nested (swept_from t.size 0 t b.0) row = subst (λ (r : List Ends). Nested (swept_from t.size 0 t b.0) r) (ap (λ n. swept_from n 0 s base.0) same ∙ base.2) swept in
       (swept_from t.size 0 t b.0, accepted t b.0 b.1, λ j h. (nested_inner (swept_from t.size 0 t b.0) row within j).included)

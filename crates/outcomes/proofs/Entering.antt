@@ -125,16 +125,16 @@ module _ (v : Table → Verdict) (t : Table) where
     entered_at c m e h q =
         let x = then_ok (figures_of c (v (box_at m))) _ e q in
         let y = then_ok (figures_of c (v (midpoint_of (box_at m)))) _ e x.2 in
-        let a = figures_ok c (v (box_at m)) x.0 x.1 in
-        let b = figures_ok c (v (midpoint_of (box_at m))) y.0 y.1 in
-        let w = midpoint_met c m a.0 b.0 h a.1 b.1 in
+        let of_box = figures_ok c (v (box_at m)) x.0 x.1 in
+        let of_middle = figures_ok c (v (midpoint_of (box_at m))) y.0 y.1 in
+        let w = midpoint_met c m of_box.0 of_middle.0 h of_box.1 of_middle.1 in
         subst (EnteredAt c m) (ok_value y.2) (record {
           marks = refl;
-          row = a.0;
-          ok = a.1;
-          low = ap (λ (z : Ends). z.low) (sym a.2);
-          reaches = subst (λ (z : Ends). z.high ≤ℤ (component_of a.0 c).high) b.2 w.0;
-          met = subst (λ (z : Ends). Met c z.high) b.2 w.1;
+          row = of_box.0;
+          ok = of_box.1;
+          low = ap (λ (z : Ends). z.low) (sym of_box.2);
+          reaches = subst (λ (z : Ends). z.high ≤ℤ (component_of of_box.0 c).high) of_middle.2 w.0;
+          met = subst (λ (z : Ends). Met c z.high) of_middle.2 w.1;
         })
 
     -- one more place is fixed

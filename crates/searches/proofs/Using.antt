@@ -36,9 +36,9 @@ module _ (v : Table → Verdict) (r : Choice) (t : Table) (c b : ℕ) where
         let one = left_made t None st (start_of v t c None) x started in
         let end = run_of v r t b one.0 in
         let at_end : (report z, st') ≡ ran_to t end = ran ∙ ap (step v r t (run b)) one.2 in
-        let state : st' ≡ Some end.1 = ap (λ (a : Answer × State). a.1) at_end in
-        let said : report z ≡ report (report_of t end) = ap (λ (a : Answer × State). a.0) at_end in
-        let answered : reading y ≡ reading (reading_of t end.1) = ap (λ (a : Answer × State). a.0) (p ∙ ap (step v r t read) state) in
+        let state : st' ≡ Some end.1 = ap (λ (pair : Answer × State). pair.1) at_end in
+        let said : report z ≡ report (report_of t end) = ap (λ (pair : Answer × State). pair.0) at_end in
+        let answered : reading y ≡ reading (reading_of t end.1) = ap (λ (pair : Answer × State). pair.0) (p ∙ ap (step v r t read) state) in
         let same : report_of t end ≡ z = report_value said in
         let read_same : (report_of t end).reading ≡ y = reading_value answered in
         ap (λ (o : Result Started SearchRefusal). and_then o (λ s. Ok (report_of t (run_of v r t b s)))) one.1
