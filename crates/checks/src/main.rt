@@ -3,26 +3,46 @@
 
 use enclosures::elimination::Elimination;
 use enclosures::enclosure::Enclosure;
+use enclosures::fault::Fault;
 use enclosures::row_sums::RowSums;
 use enclosures::sweep::Sweep;
 use grains::interval::Interval;
-use std::io;
-use systems::draft::Draft;
+use std::{fmt, io};
+use systems::refusal::Refusal;
 use systems::system::System;
+use trials::corner::Corner;
+use trials::random::Random;
 
-mod exact;
-mod random;
+mod drawing;
 
-use crate::exact::Corner;
-use crate::random::Random;
+use crate::drawing::{any_corner, any_system, narrower};
 
 /// How many systems each method gets, and how many corners and narrower systems each accepted one.
 const SYSTEMS: u32 = 400;
 
 const CORNERS: u32 = 12;
 
-// What was found for one method.
-#[derive(Clone, Copy)]
+/// Why the checks ended early.
+#[derive(Debug, Drop)]
+enum Failure {
+    Refused(Refusal),
+    Printing(io::Error),
+}
+
+impl From<Refusal> for Failure {
+    fn from(refusal: Refusal) -> Failure {
+        Failure::Refused(refusal)
+    }
+}
+
+impl From<io::Error> for Failure {
+    fn from(error: io::Error) -> Failure {
+        Failure::Printing(error)
+    }
+}
+
+/// What was found for one method.
+#[derive(Clone, Copy, Default)]
 struct Tally {
     accepted: u32,
     refused: u32,
@@ -32,102 +52,118 @@ struct Tally {
 }
 
 impl Tally {
-    fn new() -> Tally {
-        Tally {
-            accepted: 0,
-            refused: 0,
-            solutions: 0,
-            narrower: 0,
-            violations: 0,
+    // Counts a violation where a promise is not kept.
+    fn expect(&mut self, kept: bool) {
+        if !kept {
+            self.violations = self.violations.saturating_add(1);
         }
     }
+}
 
-    fn violate(&mut self) {
-        self.violations = self.violations.saturating_add(1);
-    }
-
-    fn show(&self, rt: &impl Print, name: &str) -> io::Result<()> {
+impl fmt::Display for Tally {
+    fn fmt<W: fmt::Write>(&self, f: &mut fmt::Formatter<W>) -> fmt::Result {
         let accepted = self.accepted;
         let refused = self.refused;
         let solutions = self.solutions;
         let narrower = self.narrower;
         let violations = self.violations;
-        println!(rt;
-            "{name}: {accepted} accepted, {refused} refused, {solutions} solutions and {narrower} narrower systems checked, {violations} violations"
+        write!(
+            f,
+            "{accepted} accepted, {refused} refused, {solutions} solutions and {narrower} narrower systems checked, {violations} violations"
         )
     }
 }
 
+// Whether a component of the corner's exact solution lies in an interval; never where the corner is singular.
+fn lies(corner: &Corner, component: usize, interval: &Interval) -> bool {
+    corner.component(component).is_some_and(|exact| {
+        exact.is_at_least(interval.low()) && exact.is_at_most(interval.high())
+    })
+}
+
 // Whether each component of the corner's exact solution lies in its interval of the row.
-fn holds(corner: &Corner, row: &[Interval; 6]) -> bool {
-    let mut inside = true;
-    for j in 0..corner.size() {
-        if j < 6 && !corner.lies(j, row[j].low(), row[j].high()) {
-            inside = false;
-        }
-    }
-    inside
+fn holds(corner: &Corner, row: &[Interval]) -> bool {
+    row.iter()
+        .enumerate()
+        .all(|(component, interval)| lies(corner, component, interval))
 }
 
-// Whether each interval of the first row lies within that of the second.
-fn within(size: usize, inner: &[Interval; 6], outer: &[Interval; 6]) -> bool {
-    let mut all = true;
-    for j in 0..6usize {
-        if j < size && (inner[j].low() < outer[j].low() || outer[j].high() < inner[j].high()) {
-            all = false;
-        }
-    }
-    all
+// Whether each interval of a row lies within that of the other.
+fn within(inner: &[Interval], outer: &[Interval]) -> bool {
+    inner.iter().zip(outer).all(|(inner, outer)| outer.low() <= inner.low()
+        && inner.high() <= outer.high())
 }
 
-// One accepted system: exact solutions of corners, and rows of narrower systems.
-fn check_accepted<M: Enclosure>(
-    method: &M,
-    system: &System,
-    row: &[Interval; 6],
-    random: &mut Random,
-    tally: &mut Tally,
-) {
-    for _ in 0..CORNERS {
-        let corner = Corner::new(system, random);
-        tally.solutions = tally.solutions.saturating_add(1);
-        if !holds(&corner, row) {
-            tally.violate();
-        }
-        let narrower = random.narrower(system);
-        let mut inner = [Interval::zero(); 6];
-        tally.narrower = tally.narrower.saturating_add(1);
-        match method.enclose(&narrower, &mut inner) {
-            Ok(()) => {
-                if !within(system.size(), &inner, row) {
-                    tally.violate();
-                }
-            }
-            Err(_) => tally.violate(),
-        }
-    }
+/// A method under check, the random numbers to come, and what was found so far.
+#[derive(Clone, Copy)]
+struct Trial<M> {
+    method: M,
+    random: Random,
+    tally: Tally,
 }
 
-fn check<M: Enclosure>(method: &M) -> Tally {
-    let mut random = Random::new(20211);
-    let mut tally = Tally::new();
-    for _ in 0..SYSTEMS {
-        let system = random.system();
+impl<M: Enclosure> Trial<M> {
+    // The method's row for a system, an interval for each of six components; those that the system does not have are [0, 0].
+    fn row(&self, system: &System) -> Result<[Interval; 6], Fault> {
         let mut row = [Interval::zero(); 6];
-        match method.enclose(&system, &mut row) {
-            Ok(()) => {
-                tally.accepted = tally.accepted.saturating_add(1);
-                check_accepted(method, &system, &row, &mut random, &mut tally);
-            }
-            Err(_) => tally.refused = tally.refused.saturating_add(1),
-        }
+        self.method.enclose(system, &mut row)?;
+        Ok(row)
     }
-    tally
+
+    // One accepted system: exact solutions of corners, and rows of narrower systems.
+    fn check_accepted(&mut self, system: &System, row: &[Interval]) -> Result<(), Refusal> {
+        for _ in 0..CORNERS {
+            let corner = any_corner(&mut self.random, system)?;
+            self.tally.solutions = self.tally.solutions.saturating_add(1);
+            self.tally.expect(holds(&corner, row));
+            let nested = narrower(&mut self.random, system)?;
+            self.tally.narrower = self.tally.narrower.saturating_add(1);
+            let inner = self.row(&nested);
+            self.tally
+                .expect(inner.is_ok_and(|inner| within(&inner, row)));
+        }
+        Ok(())
+    }
+
+    // The next random system.
+    fn check_next(&mut self) -> Result<(), Refusal> {
+        let system = any_system(&mut self.random)?;
+        match self.row(&system) {
+            Ok(row) => {
+                self.tally.accepted = self.tally.accepted.saturating_add(1);
+                self.check_accepted(&system, &row[..system.size()])?;
+            }
+            Err(_) => self.tally.refused = self.tally.refused.saturating_add(1),
+        }
+        Ok(())
+    }
 }
 
-fn main(rt: HostRuntime) -> io::Result<()> {
-    check(&Elimination).show(&rt, "elimination")?;
-    check(&RowSums).show(&rt, "row sums")?;
-    check(&Sweep { below: Elimination }).show(&rt, "elimination under a sweep")?;
-    check(&Sweep { below: RowSums }).show(&rt, "row sums under a sweep")
+// The same systems for every method.
+fn check<M: Enclosure + Copy>(method: M) -> Result<Tally, Refusal> {
+    let mut trial = Trial {
+        method,
+        random: Random::new(20211),
+        tally: Tally::default(),
+    };
+    for _ in 0..SYSTEMS {
+        trial.check_next()?;
+    }
+    Ok(trial.tally)
+}
+
+fn check_all(rt: &impl Print) -> Result<(), Failure> {
+    let tally = check(Elimination)?;
+    println!(rt; "elimination: {tally}")?;
+    let tally = check(RowSums)?;
+    println!(rt; "row sums: {tally}")?;
+    let tally = check(Sweep { below: Elimination })?;
+    println!(rt; "elimination under a sweep: {tally}")?;
+    let tally = check(Sweep { below: RowSums })?;
+    println!(rt; "row sums under a sweep: {tally}")?;
+    Ok(())
+}
+
+fn main(rt: HostRuntime) -> Result<(), Failure> {
+    check_all(&rt)
 }

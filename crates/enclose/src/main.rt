@@ -1,78 +1,97 @@
 //! Reads a job from standard input and prints an interval for each component of the solutions of its system, in grains.
 #![tactic(auto)]
 
-ghost use Rattle.std.specs.Prelude.{◌≤◌, IfOk};
-
 use enclosures::elimination::Elimination;
 use enclosures::enclosure::Enclosure;
+use enclosures::fault::Fault;
 use enclosures::sweep::Sweep;
 use grains::interval::Interval;
 use jobs::reader::read;
-use std::io;
 use std::io::Read;
+use std::{fmt, io};
 use systems::draft::Draft;
+use systems::refusal::Refusal;
 use systems::system::System;
 
 /// How many bytes of the input are read; the largest job has fewer.
-const ROOM: usize = 512;
+const ROOM: u64 = 512;
 
-// Fills the buffer from the input; answers how many bytes came before its end.
-fn fill<R: Read>(input: &mut R, buffer: &mut [u8; ROOM]) -> io::Result<usize>
-    ensures { IfOk result (λ n. n ≤ 512) }
-{
-    let mut len: usize = 0;
-    for _ in 0..ROOM {
-        if len >= ROOM {
-            break;
-        }
-        let more = input.read(&mut buffer[len..])?;
-        if more == 0 {
-            break;
-        }
-        len += more;
-    }
-    Ok(len)
+/// Why a job has no rows.
+#[derive(Clone, Copy, PartialEq, Eq, Debug)]
+enum NoRows {
+    Unreadable(Refusal),
+    ByMethod(Fault),
 }
 
-// Prints the row of elimination for a job and beside it the row after one sweep, or the number of the refusal.
-fn report(rt: &impl Print, job: &[u8]) -> io::Result<()> {
+impl From<Refusal> for NoRows {
+    fn from(refusal: Refusal) -> NoRows {
+        NoRows::Unreadable(refusal)
+    }
+}
+
+impl From<Fault> for NoRows {
+    fn from(fault: Fault) -> NoRows {
+        NoRows::ByMethod(fault)
+    }
+}
+
+impl fmt::Display for NoRows {
+    fn fmt<W: fmt::Write>(&self, f: &mut fmt::Formatter<W>) -> fmt::Result {
+        match self {
+            NoRows::Unreadable(refusal) => write!(f, "{refusal}"),
+            NoRows::ByMethod(fault) => write!(f, "{fault}"),
+        }
+    }
+}
+
+/// What is found for a system: the row of elimination, and the row after one sweep. The methods fill six places, and of them the system
+/// has the first `size`.
+#[derive(Clone, Copy)]
+struct Rows {
+    size: usize,
+    plain: [Interval; 6],
+    swept: [Interval; 6],
+}
+
+impl Rows {
+    fn of(system: &System) -> Result<Rows, Fault> {
+        let mut plain = [Interval::zero(); 6];
+        let mut swept = plain;
+        Elimination.enclose(system, &mut plain)?;
+        Sweep { below: Elimination }.enclose(system, &mut swept)?;
+        Ok(Rows {
+            size: system.size(),
+            plain,
+            swept,
+        })
+    }
+
+    // Prints a line for each component.
+    fn print(&self, rt: &impl Print) -> io::Result<()> {
+        println!(rt; "comp low high swept-low swept-high")?;
+        for ((component, plain), swept) in (1..=self.size).zip(&self.plain).zip(&self.swept) {
+            let low = plain.low();
+            let high = plain.high();
+            let swept_low = swept.low();
+            let swept_high = swept.high();
+            println!(rt; "{component} {low} {high} {swept_low} {swept_high}")?;
+        }
+        Ok(())
+    }
+}
+
+// The rows of the system that a job holds.
+fn rows_in(job: &[u8]) -> Result<Rows, NoRows> {
     let mut draft = Draft::new();
-    if let Err(refusal) = read(job, &mut draft) {
-        let number = refusal.number();
-        return println!(rt; "refused {number}");
-    }
-    let system = draft.close();
-    let mut row = [Interval::zero(); 6];
-    let mut swept = row;
-    if let Err(fault) = Elimination.enclose(&system, &mut row) {
-        let number = fault.number;
-        return println!(rt; "refused {number}");
-    }
-    // The sweep refuses exactly where elimination does.
-    let _ = Sweep { below: Elimination }.enclose(&system, &mut swept);
-    print_rows(rt, &system, &row, &swept)
-}
-
-fn print_rows(
-    rt: &impl Print,
-    system: &System,
-    row: &[Interval; 6],
-    swept: &[Interval; 6],
-) -> io::Result<()> {
-    println!(rt; "comp low high swept-low swept-high")?;
-    for i in 0..system.size() {
-        let component = i + 1;
-        let low = row[i].low();
-        let high = row[i].high();
-        let swept_low = swept[i].low();
-        let swept_high = swept[i].high();
-        println!(rt; "{component} {low} {high} {swept_low} {swept_high}")?;
-    }
-    Ok(())
+    read(job, &mut draft)?;
+    Ok(Rows::of(&draft.close())?)
 }
 
 fn main(rt: HostRuntime) -> io::Result<()> {
-    let mut buffer = [0u8; ROOM];
-    let len = fill(&mut rt.stdin(), &mut buffer)?;
-    report(&rt, &buffer[0..len])
+    let mut job = Vec::new(rt.alloc());
+    rt.stdin().take(ROOM).read_to_end(&mut job)?;
+    match rows_in(&job) {
+        Ok(rows) => rows.print(&rt),
+        Err(reason) => println!(rt; "{reason}"),
+    }
 }

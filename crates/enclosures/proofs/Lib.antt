@@ -1,5 +1,4 @@
-pub mod Parts
-pub mod Walks
 pub mod Views
+pub mod Rows
 pub mod Scales
 pub mod Enclosing

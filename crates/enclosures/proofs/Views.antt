@@ -1,122 +1,128 @@
--- The rows of elimination as the code holds them. Assumes nothing.
-use Rattle.std.proofs.Common.{◌≡◌, ℕ, suc, ◌+◌, ◌-◌, ◌<◌, ◌≤◌, true, false, cond, List, ◌∷◌, map, length, get_or, take, drop, set, pos, Ok, Err, Result, sym, refl, ap, ◌∙◌, arith}
-use lib.ListN.{length-map}
-use lib.Seq.{map-set}
-use Rattle.std.proofs.lemmas.List.{get_or-map}
-use Rattle.std.specs.List.{between}
+-- Loops that work out answers one after another, as the definitions chain them. Assumes nothing.
+use Rattle.std.proofs.Common.{◌≡◌, ℕ, ◌+◌, ◌<◌, ◌≤◌, ◌⊎◌, true, false, cond, List, [], ◌∷◌, ◌++◌, map, length, get_or, take, drop, set, Ok, Err, Result, inl, inr, sym, refl, ap, ◌∙◌, append_assoc, append-nil, arith}
+use Rattle.std.proofs.lemmas.List.{drop_more, drop-set-lt, take_more_set, map_push, take_all, drop_all}
 use Rattle.algebra.specs.Chaining.{and_then, each, each_with}
-use Rattle.algebra.specs.Ends.{Ends, from_to}
-use Rattle.grains.specs.Arithmetic.{ends_of, contains_zero, quotient_of}
+use Rattle.algebra.specs.Ends.{Ends}
+use Rattle.grains.specs.Arithmetic.{ends_of, contains_zero}
 use Rattle.grains.specs.declared.interval.ArithmeticError.{ArithmeticError}
 use Rattle.grains.specs.declared.interval.ArithmeticError.TheVariants.{DivisorContainsZero}
 use Rattle.grains.specs.declared.interval.Interval.{Interval}
 use Rattle.enclosures.specs.declared.line.Line.{Line}
-use Rattle.enclosures.specs.Elimination.{Row, lead, less_multiple, less_products, reduced_of, solved_of, eliminated}
-use Rattle.enclosures.specs.Working.{viewed, lined}
-use Rattle.std.proofs.lemmas.List.Edits.{between_none}
-use Rattle.enclosures.proofs.Parts.{between_front, between_lead, between_back, between_fronted}
+use Rattle.enclosures.specs.Elimination.{lead, less_multiple, less_products, reduced_of, solved_of, eliminated}
+use Rattle.enclosures.specs.Working.{viewed}
 
-module _ (k n : ℕ) (below : k < n) (few : n ≤ 6) (l : Line) (x : Interval) where
-  long : n ≤ length (map ends_of l.coefficients)
-  long = simp length-map (omega (arith, l.full))
+empty : {X : Type 0} (xs : List X) → length xs ≡ 0 → xs ≡ []
+empty [] h = refl
+empty (x ∷ xs) h = absurd (omega arith)
 
-  pub lead-viewed : lead (viewed k n l) ≡ ends_of (get_or l.coefficients k x)
-  lead-viewed = between_lead (map ends_of l.coefficients) k n (ends_of x) (from_to (pos 0) (pos 0)) below long ∙ get_or-map ends_of l.coefficients k x (ends_of x) (omega (arith, l.full))
+-- ---- products that are taken from a start
+module _ (b : Ends) (cs xs : List Interval) where
+  module _ (c x : Interval) (cs' xs' : List Interval) (coefficient : cs ≡ c ∷ cs') (component : xs ≡ x ∷ xs') where
+    turn : less_products b (map ends_of cs) (map ends_of xs) ≡ and_then (less_multiple (ends_of c) b (ends_of x)) (λ d. less_products d (map ends_of cs') (map ends_of xs'))
+    turn = λ i. less_products b (map ends_of (coefficient i)) (map ends_of (component i))
 
-  pub rest_viewed : drop 1 (viewed k n l).coefficients ≡ between (k + 1) n (map ends_of l.coefficients)
-  rest_viewed = between_back (map ends_of l.coefficients) k n (ends_of x) below long
+    pub products_on : (d : Ends) → Ok d ≡ less_multiple (ends_of c) b (ends_of x) → less_products b (map ends_of cs) (map ends_of xs) ≡ less_products d (map ends_of cs') (map ends_of xs')
+    products_on d made = turn ∙ ap (λ r. and_then r (λ y. less_products y (map ends_of cs') (map ends_of xs'))) (sym made)
 
-pub reduced_viewed : (k n : ℕ) → k < n → n ≤ 6 → (p l : Line) (x y : Interval)
-    → reduced_of (viewed k n p) (viewed k n l)
-    ≡ and_then (quotient_of (ends_of (get_or l.coefficients k x)) (ends_of (get_or p.coefficients k y))) (λ m.
-    and_then (each_with (less_multiple m) (between (k + 1) n (map ends_of l.coefficients)) (between (k + 1) n (map ends_of p.coefficients))) (λ cs.
-    and_then (less_multiple m (ends_of l.right) (ends_of p.right)) (λ b.
-    Ok (record { coefficients = cs; right = b }))))
-unfolding reduced_of
-reduced_viewed k n below few p l x y =
-    λ i. and_then (quotient_of (lead-viewed k n below few l x i) (lead-viewed k n below few p y i)) (λ m.
-    and_then (each_with (less_multiple m) (rest_viewed k n below few l x i) (rest_viewed k n below few p y i)) (λ cs.
-    and_then (less_multiple m (ends_of l.right) (ends_of p.right)) (λ b.
-    Ok (record { coefficients = cs; right = b }))))
+    pub products_stop : (e : ArithmeticError) → Err e ≡ less_multiple (ends_of c) b (ends_of x) → less_products b (map ends_of cs) (map ends_of xs) ≡ Err e
+    products_stop e made = turn ∙ ap (λ r. and_then r (λ y. less_products y (map ends_of cs') (map ends_of xs'))) (sym made)
 
-pub solved_viewed : (k n : ℕ) → k < n → n ≤ 6 → (p : Line) (x : Interval) (xs : List Ends)
-    → solved_of (viewed k n p) xs ≡ and_then (less_products (ends_of p.right) (between (k + 1) n (map ends_of p.coefficients)) xs) (λ d. quotient_of d (ends_of (get_or p.coefficients k x)))
-unfolding solved_of
-solved_viewed k n below few p x xs =
-    λ i. and_then (less_products (ends_of p.right) (rest_viewed k n below few p x i) xs) (λ d. quotient_of d (lead-viewed k n below few p x i))
+  pub products_end : (length cs ≡ 0) ⊎ (length xs ≡ 0) → less_products b (map ends_of cs) (map ends_of xs) ≡ Ok b
+  products_end (inl none) = ap (λ ys. less_products b (map ends_of ys) (map ends_of xs)) (empty cs none)
+  products_end (inr none) = ap (λ ys. less_products b (map ends_of cs) (map ends_of ys)) (empty xs none) ∙ no_component (map ends_of cs)
+    where
+      no_component : (es : List Ends) → less_products b es [] ≡ Ok b
+      no_component [] = refl
+      no_component (e ∷ es) = refl
 
--- one more product is taken from what is left
-module _ (b : Ends) (cs xs : List Interval) (j n : ℕ) (x y : Interval) (below : j < n) (long : n ≤ length cs) (long' : n ≤ length xs) where
-  later : Ends → Result Ends ArithmeticError
-  later d = less_products d (between (j + 1) n (map ends_of cs)) (between (j + 1) n (map ends_of xs))
+-- ---- answers that are put behind those that stand in front
+regrouped : {C E : Type 0} (r : Result (List C) E) (front : List C) (z : C)
+    → and_then (and_then r (λ zs. Ok (z ∷ zs))) (λ ys. Ok (front ++ ys)) ≡ and_then r (λ ys. Ok ((front ++ z ∷ []) ++ ys))
+regrouped (Ok zs) front z = ap Ok (sym (append_assoc front (z ∷ []) zs))
+regrouped (Err e) front z = refl
 
-  next : less_products b (between j n (map ends_of cs)) (between j n (map ends_of xs)) ≡ and_then (less_multiple (ends_of (get_or cs j x)) b (ends_of (get_or xs j y))) later
-  unfolding later
-  next =
-      let first = between_front (map ends_of cs) j n (ends_of x) below (simp length-map long) in
-      let second = between_front (map ends_of xs) j n (ends_of y) below (simp length-map long') in
-      (λ i. less_products b (first i) (second i))
-      ∙ (λ i. and_then (less_multiple (get_or-map ends_of cs j x (ends_of x) (omega arith) i) b (get_or-map ends_of xs j y (ends_of y) (omega arith) i)) later)
+pub unchained : {A E : Type 0} (r : Result A E) → r ≡ and_then r (λ x. Ok x)
+unchained (Ok x) = refl
+unchained (Err e) = refl
 
-  pub products_more : (d : Ends) → Ok d ≡ less_multiple (ends_of (get_or cs j x)) b (ends_of (get_or xs j y))
-      → less_products b (between j n (map ends_of cs)) (between j n (map ends_of xs)) ≡ less_products d (between (j + 1) n (map ends_of cs)) (between (j + 1) n (map ends_of xs))
-  unfolding later
-  products_more d made = next ∙ ap (λ r. and_then r later) (sym made)
+module _ {A B C E : Type 0} (f : A → B → Result C E) (front : List C) (cs : List A) (ps : List B) where
+  module _ (c : A) (p : B) (cs' : List A) (ps' : List B) (first : cs ≡ c ∷ cs') (second : ps ≡ p ∷ ps') where
+    pair : and_then (each_with f cs ps) (λ ys. Ok (front ++ ys)) ≡ and_then (and_then (f c p) (λ z. and_then (each_with f cs' ps') (λ zs. Ok (z ∷ zs)))) (λ ys. Ok (front ++ ys))
+    pair = λ i. and_then (each_with f (first i) (second i)) (λ ys. Ok (front ++ ys))
 
-  pub products_refused : (e : ArithmeticError) → Err e ≡ less_multiple (ends_of (get_or cs j x)) b (ends_of (get_or xs j y))
-      → less_products b (between j n (map ends_of cs)) (between j n (map ends_of xs)) ≡ Err e
-  products_refused e made = next ∙ ap (λ r. and_then r later) (sym made)
+    pub pairs_on : (z : C) → Ok z ≡ f c p → and_then (each_with f cs ps) (λ ys. Ok (front ++ ys)) ≡ and_then (each_with f cs' ps') (λ ys. Ok ((front ++ z ∷ []) ++ ys))
+    pairs_on z made = pair ∙ ap (λ r. and_then (and_then r (λ z'. and_then (each_with f cs' ps') (λ zs. Ok (z' ∷ zs)))) (λ ys. Ok (front ++ ys))) (sym made) ∙ regrouped (each_with f cs' ps') front z
 
-pub products_all : (b : Ends) (cs xs : List Interval) (n : ℕ) → less_products b (between n n (map ends_of cs)) (between n n (map ends_of xs)) ≡ Ok b
-products_all b cs xs n = λ i. less_products b (between_none (map ends_of cs) n i) (between n n (map ends_of xs))
+    pub pairs_stop : (e : E) → Err e ≡ f c p → and_then (each_with f cs ps) (λ ys. Ok (front ++ ys)) ≡ Err e
+    pairs_stop e made = pair ∙ ap (λ r. and_then (and_then r (λ z'. and_then (each_with f cs' ps') (λ zs. Ok (z' ∷ zs)))) (λ ys. Ok (front ++ ys))) (sym made)
 
--- elimination of the lines from k on: line k is the pivot line
-module _ (k n : ℕ) (below : k < n) (few : n ≤ 6) (ls : List Line) (all : length ls ≡ 6) (l : Line) (x : Interval) where
-  fronted : lined k n ls ≡ viewed k n (get_or ls k l) ∷ between (k + 1) n (map (viewed k n) ls)
-  fronted =
-      between_front (map (viewed k n) ls) k n (viewed k n l) below (simp length-map (omega arith))
-      ∙ ap (λ r. r ∷ between (k + 1) n (map (viewed k n) ls)) (get_or-map (viewed k n) ls k l (viewed k n l) (omega arith))
+  pub pairs_end : (length cs ≡ 0) ⊎ (length ps ≡ 0) → and_then (each_with f cs ps) (λ ys. Ok (front ++ ys)) ≡ Ok front
+  pairs_end (inl none) = ap (λ zs. and_then (each_with f zs ps) (λ ys. Ok (front ++ ys))) (empty cs none) ∙ ap Ok (append-nil front)
+  pairs_end (inr none) = ap (λ zs. and_then (each_with f cs zs) (λ ys. Ok (front ++ ys))) (empty ps none) ∙ alone cs
+    where
+      alone : (zs : List A) → and_then (each_with f zs []) (λ ys. Ok (front ++ ys)) ≡ Ok front
+      alone [] = ap Ok (append-nil front)
+      alone (z ∷ zs) = ap Ok (append-nil front)
 
-  pub eliminated-viewed : eliminated (n - k) (lined k n ls)
-      ≡ cond (contains_zero (ends_of (get_or (get_or ls k l).coefficients k x))) (Err DivisorContainsZero)
-      (and_then (each (reduced_of (viewed k n (get_or ls k l))) (between (k + 1) n (map (viewed k n) ls))) (λ rest.
-      and_then (eliminated (n - (k + 1)) rest) (λ xs.
-      and_then (solved_of (viewed k n (get_or ls k l)) xs) (λ y.
-      Ok (y ∷ xs)))))
-  unfolding eliminated
-  eliminated-viewed =
-      let count : n - k ≡ suc (n - (k + 1)) = omega arith in
-      (λ i. eliminated (count i) (fronted i))
-      ∙ (λ i. cond (contains_zero (lead-viewed k n below few (get_or ls k l) x i)) (Err DivisorContainsZero)
-      (and_then (each (reduced_of (viewed k n (get_or ls k l))) (between (k + 1) n (map (viewed k n) ls))) (λ rest.
-      and_then (eliminated (n - (k + 1)) rest) (λ xs.
-      and_then (solved_of (viewed k n (get_or ls k l)) xs) (λ y.
-      Ok (y ∷ xs))))))
+-- ---- elements that are replaced one by one
+module _ {X A C E : Type 0} (f : A → Result C E) (v : X → A) (w : X → C) (now was : List X) (i : ℕ) (x y : X) (h : i < length now) (h' : i < length was) (rest : drop i now ≡ drop i was) where
+  element : get_or now i x ≡ get_or was i x
+  element = let p = drop_more now i x h in let q = drop_more was i x h' in cc
 
-  -- the step that stops elimination, and its answer where none does
-  pub stops-at_pivot : contains_zero (ends_of (get_or (get_or ls k l).coefficients k x)) ≡ true → eliminated (n - k) (lined k n ls) ≡ Err DivisorContainsZero
-  stops-at_pivot z = eliminated-viewed ∙ rw z refl
+  turn_at : and_then (each f (map v (drop i was))) (λ ys. Ok (map w (take i now) ++ ys))
+      ≡ and_then (and_then (f (v (get_or now i x))) (λ z. and_then (each f (map v (drop (i + 1) was))) (λ zs. Ok (z ∷ zs)))) (λ ys. Ok (map w (take i now) ++ ys))
+  turn_at = λ k. and_then (each f (map v ((drop_more was i x h' ∙ ap (λ e. e ∷ drop (i + 1) was) (sym element)) k))) (λ ys. Ok (map w (take i now) ++ ys))
 
-  module _ (z : contains_zero (ends_of (get_or (get_or ls k l).coefficients k x)) ≡ false) where
-    pub stops_in_column : (e : ArithmeticError) → each (reduced_of (viewed k n (get_or ls k l))) (between (k + 1) n (map (viewed k n) ls)) ≡ Err e → eliminated (n - k) (lined k n ls) ≡ Err e
-    stops_in_column e a = eliminated-viewed ∙ rw (z, a) refl
+  pub each_on : Ok (w y) ≡ f (v (get_or now i x))
+      → and_then (each f (map v (drop i was))) (λ ys. Ok (map w (take i now) ++ ys)) ≡ and_then (each f (map v (drop (i + 1) was))) (λ ys. Ok (map w (take (i + 1) (set now i y)) ++ ys))
+  each_on made =
+      turn_at ∙ ap (λ r. and_then (and_then r (λ z. and_then (each f (map v (drop (i + 1) was))) (λ zs. Ok (z ∷ zs)))) (λ ys. Ok (map w (take i now) ++ ys))) (sym made)
+      ∙ regrouped (each f (map v (drop (i + 1) was))) (map w (take i now)) (w y)
+      ∙ ap (λ front. and_then (each f (map v (drop (i + 1) was))) (λ ys. Ok (front ++ ys))) (sym (ap (map w) (take_more_set now i y h) ∙ map_push w (take i now) y))
 
-    module _ (rest : List Row) (a : each (reduced_of (viewed k n (get_or ls k l))) (between (k + 1) n (map (viewed k n) ls)) ≡ Ok rest) where
-      pub stops_below : (e : ArithmeticError) → eliminated (n - (k + 1)) rest ≡ Err e → eliminated (n - k) (lined k n ls) ≡ Err e
-      stops_below e b = eliminated-viewed ∙ rw (z, a, b) refl
+  pub each_stop : (e : E) → Err e ≡ f (v (get_or now i x)) → and_then (each f (map v (drop i was))) (λ ys. Ok (map w (take i now) ++ ys)) ≡ Err e
+  each_stop e made = turn_at ∙ ap (λ r. and_then (and_then r (λ z. and_then (each f (map v (drop (i + 1) was))) (λ zs. Ok (z ∷ zs)))) (λ ys. Ok (map w (take i now) ++ ys))) (sym made)
 
-      pub stops-at_solution : (xs : List Ends) (e : ArithmeticError) → eliminated (n - (k + 1)) rest ≡ Ok xs → solved_of (viewed k n (get_or ls k l)) xs ≡ Err e → eliminated (n - k) (lined k n ls) ≡ Err e
-      stops-at_solution xs e b s = eliminated-viewed ∙ rw (z, a, b, s) refl
+  pub rest_on : drop (i + 1) (set now i y) ≡ drop (i + 1) was
+  rest_on = let p = drop_more now i x h in let q = drop_more was i x h' in let s = drop-set-lt (i + 1) now i y (omega arith) in cc
 
-      pub solves : (xs : List Ends) (y : Ends) → eliminated (n - (k + 1)) rest ≡ Ok xs → solved_of (viewed k n (get_or ls k l)) xs ≡ Ok y → eliminated (n - k) (lined k n ls) ≡ Ok (y ∷ xs)
-      solves xs y b s = eliminated-viewed ∙ rw (z, a, b, s) refl
+pub each_end : {X A C E : Type 0} (f : A → Result C E) (v : X → A) (w : X → C) (now was : List X) (i : ℕ) → length was ≤ i → length now ≤ i
+    → and_then (each f (map v (drop i was))) (λ ys. Ok (map w (take i now) ++ ys)) ≡ Ok (map w now)
+each_end f v w now was i end end' =
+    (λ k. and_then (each f (map v (drop_all i was end k))) (λ ys. Ok (map w (take_all i now end' k) ++ ys))) ∙ ap Ok (append-nil (map w now))
 
--- the newest component in front of the others
-pub solution_fronted : (k n : ℕ) (xs : List Interval) (y : Interval) → k < n → n ≤ length xs → between k n (map ends_of (set xs k y)) ≡ ends_of y ∷ between (k + 1) n (map ends_of xs)
-solution_fronted k n xs y below long = ap (between k n) (map-set ends_of xs k y) ∙ between_fronted (map ends_of xs) k n (ends_of y) below (simp length-map long)
-
-pub eliminated_all : (k n : ℕ) (ls : List Line) (xs : List Interval) → k ≡ n → eliminated (n - k) (lined k n ls) ≡ Ok (between k n (map ends_of xs))
+-- ---- elimination of lines: the first is the pivot line
+pub eliminated_none : (ls : List Line) (xs : List Interval) → length ls ≡ 0 → length ls ≡ length xs → eliminated (length ls) (map viewed ls) ≡ Ok (map ends_of xs)
 unfolding eliminated
-eliminated_all k n ls xs same =
-    let none : n - k ≡ 0 = omega arith in
-    (λ i. eliminated (none i) (lined k n ls)) ∙ ap Ok (ap (λ m. take m (drop k (map ends_of xs))) (sym none))
+eliminated_none ls xs none same =
+    ap (λ ys. eliminated (length ys) (map viewed ys)) (empty ls none) ∙ ap (λ ys. Ok (map ends_of ys)) (sym (empty xs (sym same ∙ none)))
+
+module _ (ls : List Line) (p : Line) (rest : List Line) (is : ls ≡ p ∷ rest) where
+  whole : eliminated (length ls) (map viewed ls)
+      ≡ cond (contains_zero (lead (viewed p))) (Err DivisorContainsZero)
+      (and_then (each (reduced_of (viewed p)) (map viewed rest)) (λ rows.
+      and_then (eliminated (length rest) rows) (λ xs.
+      and_then (solved_of (viewed p) xs) (λ x.
+      Ok (x ∷ xs)))))
+  unfolding eliminated
+  whole = ap (λ xs. eliminated (length xs) (map viewed xs)) is
+
+  pub stops-at_pivot : contains_zero (lead (viewed p)) ≡ true → eliminated (length ls) (map viewed ls) ≡ Err DivisorContainsZero
+  stops-at_pivot z = whole ∙ rw z refl
+
+  module _ (z : contains_zero (lead (viewed p)) ≡ false) where
+    pub stops_in_column : (e : ArithmeticError) → each (reduced_of (viewed p)) (map viewed rest) ≡ Err e → eliminated (length ls) (map viewed ls) ≡ Err e
+    stops_in_column e column = whole ∙ rw (z, column) refl
+
+    module _ (cleared : List Line) (same : length cleared ≡ length rest) (column : each (reduced_of (viewed p)) (map viewed rest) ≡ Ok (map viewed cleared)) where
+      below : eliminated (length ls) (map viewed ls) ≡ and_then (eliminated (length cleared) (map viewed cleared)) (λ xs. and_then (solved_of (viewed p) xs) (λ x. Ok (x ∷ xs)))
+      below = whole ∙ rw (z, column) (ap (λ n. and_then (eliminated n (map viewed cleared)) (λ xs. and_then (solved_of (viewed p) xs) (λ x. Ok (x ∷ xs)))) (sym same))
+
+      pub stops_below : (e : ArithmeticError) → eliminated (length cleared) (map viewed cleared) ≡ Err e → eliminated (length ls) (map viewed ls) ≡ Err e
+      stops_below e others = below ∙ rw others refl
+
+      pub stops-at_solution : (xs : List Ends) (e : ArithmeticError) → eliminated (length cleared) (map viewed cleared) ≡ Ok xs → solved_of (viewed p) xs ≡ Err e → eliminated (length ls) (map viewed ls) ≡ Err e
+      stops-at_solution xs e others first = below ∙ rw (others, first) refl
+
+      pub solves : (xs : List Ends) (x : Ends) → eliminated (length cleared) (map viewed cleared) ≡ Ok xs → solved_of (viewed p) xs ≡ Ok x → eliminated (length ls) (map viewed ls) ≡ Ok (x ∷ xs)
+      solves xs x others first = below ∙ rw (others, first) refl

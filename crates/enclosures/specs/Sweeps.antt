@@ -1,10 +1,9 @@
 -- The steps of a sweep as the code takes them. Assumes nothing.
-use Rattle.std.specs.Prelude.{◌≡◌, ℕ, zero, suc, ◌+◌, ◌-◌, ◌<◌, ◌≤◌, List, [], ◌∷◌, ◌++◌, map, length, take, drop, pos, Some, None, Ok, Err, Option, Result, slice_index_or, slice_set, refl}
+use Rattle.std.specs.Prelude.{◌≡◌, ℕ, zero, suc, ◌+◌, ◌-◌, ◌<◌, List, [], ◌∷◌, ◌++◌, map, length, take, drop, pos, Some, None, Ok, Err, Option, Result, slice_index_or, slice_set, refl}
 use Rattle.std.proofs.Common.{arith, add-one, sym, ap, ◌∙◌, length-take, length-set, take-append-drop}
-use Rattle.std.proofs.Math.Seq.{take-set-lt}
-use Rattle.std.proofs.lemmas.List.{drop-take, take-take, get_or-take, get_or-map, drop-map, take_at, drop_at, length-map, map-set}
+use Rattle.std.proofs.lemmas.List.{get_or-map, drop-map, take-map, take_at, drop_at, length-map, map-set}
 use Rattle.std.specs.Option.{option_map, unwrap_or}
-use Rattle.std.specs.List.{between, remove}
+use Rattle.std.specs.List.{remove}
 use Rattle.algebra.specs.Chaining.{and_then}
 use Rattle.algebra.specs.Ends.{Ends, from_to}
 use Rattle.grains.specs.Arithmetic.{ends_of, common_of, quotient_of}
@@ -18,7 +17,6 @@ use Rattle.enclosures.specs.Methods.{component_of}
 use Rattle.enclosures.specs.Sweeping.{solved_for, narrowed_at, narrowed_by, swept_from}
 use Rattle.enclosures.specs.Verdicts.{Verdict, Encloses}
 use Rattle.enclosures.specs.Working.{viewed}
-use Rattle.algebra.proofs.Filling.{between_start}
 
 then_then : {A B C E : Type 0} (r : Result A E) (f : A → Result B E) (g : B → Result C E) → and_then r (λ x. and_then (f x) g) ≡ and_then (and_then r f) g
 then_then (Ok x) f g = refl
@@ -32,32 +30,24 @@ products_append b (c ∷ cs) ds (x ∷ xs) ys h =
     let k : length cs ≡ length xs = cc in
     (λ i. and_then (less_multiple c b x) (λ d. products_append d cs ds xs ys k i)) ∙ then_then (less_multiple c b x) (λ d. less_products d cs xs) (λ d. less_products d ds ys)
 
--- the first n elements without element i are those before it and those behind it
-removed_taken : {X : Type 0} (xs : List X) (i n : ℕ) → i < n → remove (take n xs) i ≡ between 0 i xs ++ between (i + 1) n xs
-removed_taken xs i n h =
-    let front : take i (take n xs) ≡ between 0 i xs = take-take i n xs (omega arith) ∙ sym (between_start i xs) in
-    let all : suc i + (n - (i + 1)) ≡ n = omega arith in
-    let back : drop (suc i) (take n xs) ≡ between (i + 1) n xs =
-    ap (λ m. drop (suc i) (take m xs)) (sym all) ∙ drop-take (suc i) (n - (i + 1)) xs ∙ ap (λ m. take (n - (i + 1)) (drop m xs)) (sym (add-one i)) in
-    λ k. front k ++ back k
+pub component_seen : (xs : List Interval) (i : ℕ) (x : Interval) → i < length xs → component_of (map ends_of xs) i ≡ ends_of (slice_index_or xs i x)
+component_seen xs i x h = get_or-map ends_of xs i x (from_to (pos 0) (pos 0)) h
 
-pub component_taken : (xs : List Interval) (i n : ℕ) (x : Interval) → i < n → n ≤ length xs → component_of (take n (map ends_of xs)) i ≡ ends_of (slice_index_or xs i x)
-component_taken xs i n x h l = get_or-take n (map ends_of xs) i (from_to (pos 0) (pos 0)) h ∙ get_or-map ends_of xs i x (from_to (pos 0) (pos 0)) (omega arith)
-
-pub solved_for_viewed : (l : Line) (xs : List Interval) (i n : ℕ) (x : Interval) → i < n → n ≤ 6 → n ≤ length xs
-    → solved_for (viewed 0 n l) i (take n (map ends_of xs))
-    ≡ and_then (less_products (ends_of l.right) (between 0 i (map ends_of l.coefficients)) (between 0 i (map ends_of xs))) (λ d.
-    and_then (less_products d (between (i + 1) n (map ends_of l.coefficients)) (between (i + 1) n (map ends_of xs))) (λ e.
-    quotient_of e (ends_of (slice_index_or l.coefficients i x))))
+pub solved_for_viewed : (l : Line) (xs : List Interval) (i : ℕ) (x : Interval) → i < length xs → length l.coefficients.items ≡ length xs
+    → solved_for (viewed l) i (map ends_of xs)
+    ≡ and_then (less_products (ends_of l.right) (map ends_of (take i l.coefficients.items)) (map ends_of (take i xs))) (λ d.
+    and_then (less_products d (map ends_of (drop (i + 1) l.coefficients.items)) (map ends_of (drop (i + 1) xs))) (λ e.
+    quotient_of e (ends_of (slice_index_or l.coefficients.items i x))))
 unfolding solved_for
-solved_for_viewed l xs i n x h few long =
-    let cs = l.coefficients in
-    let start = between_start n (map ends_of cs) in
-    let same : length (between 0 i (map ends_of cs)) ≡ length (between 0 i (map ends_of xs)) = ap length (between_start i (map ends_of cs)) ∙ simp (length-take, length-map) (omega (arith, l.full)) ∙ sym (ap length (between_start i (map ends_of xs))) in
-    (λ k. and_then (less_products (ends_of l.right) ((ap (λ zs. remove zs i) start ∙ removed_taken (map ends_of cs) i n h) k) (removed_taken (map ends_of xs) i n h k))
-    (λ d. quotient_of d ((ap (λ zs. component_of zs i) start ∙ component_taken cs i n x h (omega (arith, l.full))) k)))
-    ∙ ap (λ r. and_then r (λ d. quotient_of d (ends_of (slice_index_or cs i x)))) (products_append (ends_of l.right) (between 0 i (map ends_of cs)) (between (i + 1) n (map ends_of cs)) (between 0 i (map ends_of xs)) (between (i + 1) n (map ends_of xs)) same)
-    ∙ sym (then_then (less_products (ends_of l.right) (between 0 i (map ends_of cs)) (between 0 i (map ends_of xs))) (λ d. less_products d (between (i + 1) n (map ends_of cs)) (between (i + 1) n (map ends_of xs))) (λ d. quotient_of d (ends_of (slice_index_or cs i x))))
+solved_for_viewed l xs i x h long =
+    let cs = l.coefficients.items in
+    let same : length (map ends_of (take i cs)) ≡ length (map ends_of (take i xs)) = simp (length-map, length-take) (omega (arith, long)) in
+    (λ k. and_then (less_products (ends_of l.right) (without cs k) (without xs k)) (λ d. quotient_of d (component_seen cs i x (omega (arith, long)) k)))
+    ∙ ap (λ r. and_then r (λ d. quotient_of d (ends_of (slice_index_or cs i x)))) (products_append (ends_of l.right) (map ends_of (take i cs)) (map ends_of (drop (i + 1) cs)) (map ends_of (take i xs)) (map ends_of (drop (i + 1) xs)) same)
+    ∙ sym (then_then (less_products (ends_of l.right) (map ends_of (take i cs)) (map ends_of (take i xs))) (λ d. less_products d (map ends_of (drop (i + 1) cs)) (map ends_of (drop (i + 1) xs))) (λ d. quotient_of d (ends_of (slice_index_or cs i x))))
+  where
+    without : (ys : List Interval) → remove (map ends_of ys) i ≡ map ends_of (take i ys) ++ map ends_of (drop (i + 1) ys)
+    without ys = λ k. take-map ends_of i ys k ++ (ap (λ m. drop m (map ends_of ys)) (sym (add-one i)) ∙ drop-map ends_of (i + 1) ys) k
 
 -- ---- one component
 pub narrowed_ok : (old new r : Interval) (o : Option Interval) (a : Ends) (s : Result Ends ArithmeticError) → a ≡ ends_of old → Ok (ends_of new) ≡ s
@@ -72,17 +62,17 @@ pub narrowed_err : (old : Interval) (f : ArithmeticError) (a : Ends) (s : Result
 narrowed_err old f a s e g = λ i. narrowed_by (sym e i) (g i)
 
 -- ---- all components, one after the other
-pub swept_more : (t : Table) (n i : ℕ) (row : List Interval) (y : Interval) (l : Line) → i < n → viewed 0 n l ≡ row_of t i
-    → ends_of y ≡ narrowed_by (component_of (take n (map ends_of row)) i) (solved_for (viewed 0 n l) i (take n (map ends_of row)))
-    → swept_from (n - i) i t (take n (map ends_of row)) ≡ swept_from (n - (i + 1)) (i + 1) t (take n (map ends_of (slice_set row i y)))
+pub swept_more : (t : Table) (n i : ℕ) (row : List Interval) (y : Interval) (l : Line) → i < n → viewed l ≡ row_of t i
+    → ends_of y ≡ narrowed_by (component_of (map ends_of row) i) (solved_for (viewed l) i (map ends_of row))
+    → swept_from (n - i) i t (map ends_of row) ≡ swept_from (n - (i + 1)) (i + 1) t (map ends_of (slice_set row i y))
 unfolding swept_from
 swept_more t n i row y l h line made =
     let count : n - i ≡ suc (n - (i + 1)) = omega arith in
-    let xs = take n (map ends_of row) in
+    let xs = map ends_of row in
     let made' : ends_of y ≡ narrowed_at t i xs = made ∙ ap (λ r. narrowed_by (component_of xs i) (solved_for r i xs)) line in
     ap (λ m. swept_from m i t xs) count
     ∙ ap (λ z. swept_from (n - (i + 1)) (i + 1) t (slice_set xs i z)) (sym made')
-    ∙ ap (swept_from (n - (i + 1)) (i + 1) t) (sym (ap (take n) (map-set ends_of row i y) ∙ take-set-lt n (map ends_of row) i (ends_of y) h))
+    ∙ ap (swept_from (n - (i + 1)) (i + 1) t) (sym (map-set ends_of row i y))
 
 pub swept_all : (t : Table) (n : ℕ) (xs : List Ends) → swept_from (n - n) n t xs ≡ xs
 unfolding swept_from

@@ -1,12 +1,12 @@
 //! Interval Gaussian elimination, in exact grain arithmetic and without exchanging rows.
-ghost use Rattle.std.specs.Prelude.{◌≡◌, ◌+◌, ◌-◌, ◌<◌, ◌≤◌, map, length, IfOk};
+ghost use Rattle.std.specs.Prelude.{◌≡◌, ◌≤◌, map, length};
+ghost use Rattle.std.specs.List.{range_with_len};
 ghost use Rattle.std.specs.Result.{result_map_both};
-ghost use Rattle.std.specs.List.{between, range_with_len};
 ghost use Rattle.algebra.specs.Chaining.{Leaves, each, each_with};
 ghost use Rattle.grains.specs.Arithmetic.{ends_of, answer_of};
 ghost use Rattle.systems.specs.Tables.{table_of};
 ghost use Rattle.enclosures.specs.Elimination.{less_multiple, solved_of, reduced_of, eliminated, row_of, elimination_of};
-ghost use Rattle.enclosures.specs.Working.{viewed, lined};
+ghost use Rattle.enclosures.specs.Working.{viewed};
 ghost use Rattle.enclosures.specs.Narrowing.{elimination_shaped, elimination_narrows};
 ghost use Rattle.enclosures.specs.Bounds.{solvable_from, agreed_from, enclosed_from};
 ghost use Rattle.enclosures.specs.PointRows.{elimination_bounds};
@@ -14,38 +14,34 @@ ghost use Rattle.enclosures.specs.PointRows.{elimination_bounds};
 use crate::enclosure::Enclosure;
 use crate::fault::Fault;
 use crate::line::Line;
-use crate::working::{less_multiple, less_products, line};
+use crate::working::{less_multiple, less_products};
+use arrayvec::ArrayVec;
 use grains::interval::{ArithmeticError, Interval};
 use systems::system::System;
 
-// The coefficients of a line from k + 1 on, less m times those of the pivot line.
+// Coefficients of a line, less m times those of the pivot line.
 fn reduced_coefficients(
-    pivot: &Line,
-    line: &Line,
     m: Interval,
-    k: usize,
-    n: usize,
-) -> Result<[Interval; 6], ArithmeticError>
-    requires below { k < n }
-    requires few { n ≤ 6 }
-    ensures value { result_map_both (λ cs. between (k + 1) n (map ends_of cs)) (λ e. e) result ≡ each_with (less_multiple (ends_of m)) (between (k + 1) n (map ends_of line.now.coefficients)) (between (k + 1) n (map ends_of pivot.now.coefficients)) }
-    ensures full { IfOk result (λ cs. length cs ≡ 6) }
+    line: &[Interval],
+    pivot: &[Interval],
+) -> Result<ArrayVec<Interval, 6>, ArithmeticError>
+    requires { length line.now ≤ 6 }
+    ensures { result_map_both (λ cs. map ends_of cs.items) (λ e. e) result ≡ each_with (less_multiple (ends_of m)) (map ends_of line.now) (map ends_of pivot.now) }
 {
-    let mut coefficients = line.coefficients;
-    for j in k + 1..n {
-        coefficients[j] = less_multiple(m, coefficients[j], pivot.coefficients[j])?;
+    let mut coefficients = ArrayVec::new();
+    for (old, by) in line.iter().zip(pivot) {
+        coefficients.push(less_multiple(m, *old, *by)?);
     }
     Ok(coefficients)
 }
 
-// The line with its coefficient k cleared by the pivot line: what is left of it begins at coefficient k + 1.
-fn reduced(pivot: &Line, line: &Line, k: usize, n: usize) -> Result<Line, ArithmeticError>
-    requires below { k < n }
-    requires few { n ≤ 6 }
-    ensures { result_map_both (viewed (k + 1) n) (λ e. e) result ≡ reduced_of (viewed k n pivot.now) (viewed k n line.now) }
+// The line without its first unknown, cleared by the pivot line.
+#[tactic(auto, unfolding(crate::specs::Elimination::reduced_of))]
+fn reduced(pivot: &Line, line: &Line) -> Result<Line, ArithmeticError>
+    ensures { result_map_both viewed (λ e. e) result ≡ reduced_of (viewed pivot.now) (viewed line.now) }
 {
-    let m = line.coefficients[k].quotient(pivot.coefficients[k])?;
-    let coefficients = reduced_coefficients(pivot, line, m, k, n)?;
+    let m = line.lead().quotient(pivot.lead())?;
+    let coefficients = reduced_coefficients(m, line.rest(), pivot.rest())?;
     let right = less_multiple(m, line.right, pivot.right)?;
     Ok(Line {
         coefficients,
@@ -53,71 +49,51 @@ fn reduced(pivot: &Line, line: &Line, k: usize, n: usize) -> Result<Line, Arithm
     })
 }
 
-// Component k, from the line of unknown k and the components after it.
-fn solved(
-    pivot: &Line,
-    components: &[Interval; 6],
-    k: usize,
-    n: usize,
-) -> Result<Interval, ArithmeticError>
-    requires below { k < n }
-    requires few { n ≤ 6 }
-    ensures { answer_of result ≡ solved_of (viewed k n pivot.now) (between (k + 1) n (map ends_of components.now)) }
+// The component of the first unknown of a line, from those of the others.
+#[tactic(auto, unfolding(crate::specs::Elimination::solved_of))]
+fn solved(pivot: &Line, others: &[Interval]) -> Result<Interval, ArithmeticError>
+    ensures { answer_of result ≡ solved_of (viewed pivot.now) (map ends_of others.now) }
 {
-    less_products(pivot.right, pivot, components, k + 1, n)?.quotient(pivot.coefficients[k])
+    less_products(pivot.right, pivot.rest(), others)?.quotient(pivot.lead())
 }
 
-// Clears coefficient k of the lines after line k.
-fn clear_column(
-    pivot: &Line,
-    lines: &mut [Line; 6],
-    k: usize,
-    n: usize,
-) -> Result<(), ArithmeticError>
-    requires below { k < n }
-    requires few { n ≤ 6 }
-    ensures { Leaves result (lined (k + 1) n lines.new) (each (reduced_of (viewed k n pivot.now)) (between (k + 1) n (map (viewed k n) lines.old))) }
+// Clears the first unknown of the lines by the pivot line.
+fn clear_column(pivot: &Line, lines: &mut [Line]) -> Result<(), ArithmeticError>
+    ensures { Leaves result (map viewed lines.new) (each (reduced_of (viewed pivot.now)) (map viewed lines.old)) }
 {
-    for i in k + 1..n {
-        lines[i] = reduced(pivot, &lines[i], k, n)?;
+    for line in lines.iter_mut() {
+        *line = reduced(pivot, line)?;
     }
     Ok(())
 }
 
-// Components k to n of the lines k to n, whose coefficients before k are cleared.
-fn solve_from(
-    k: usize,
-    n: usize,
-    lines: &mut [Line; 6],
-    components: &mut [Interval; 6],
-) -> Result<(), ArithmeticError>
-    requires within { k ≤ n }
-    requires few { n ≤ 6 }
-    ensures { Leaves result (between k n (map ends_of components.new)) (eliminated (n - k) (lined k n lines.old)) }
+// The components of as many lines as there are unknowns left.
+fn solve(lines: &mut [Line], components: &mut [Interval]) -> Result<(), ArithmeticError>
+    requires { length lines.old ≡ length components.old }
+    ensures { Leaves result (map ends_of components.new) (eliminated (length lines.old) (map viewed lines.old)) }
 {
-    if k == n {
+    let Some((pivot, rest)) = lines.split_first_mut() else {
         return Ok(());
-    }
-    let pivot = lines[k];
-    if pivot.coefficients[k].contains_zero() {
+    };
+    let Some((component, others)) = components.split_first_mut() else {
+        return Ok(());
+    };
+    if pivot.lead().contains_zero() {
         return Err(ArithmeticError::DivisorContainsZero);
     }
-    clear_column(&pivot, lines, k, n)?;
-    solve_from(k + 1, n, lines, components)?;
-    components[k] = solved(&pivot, components, k, n)?;
+    clear_column(pivot, rest)?;
+    solve(rest, others)?;
+    *component = solved(pivot, others)?;
     Ok(())
 }
 
 // The rows of a system as lines.
-fn lines(system: &System) -> [Line; 6]
-    ensures { lined 0 (table_of system.now).size result ≡ map (row_of (table_of system.now)) (range_with_len 0 (table_of system.now).size) }
+fn lines(system: &System) -> ArrayVec<Line, 6>
+    ensures { map viewed result.items ≡ map (row_of (table_of system.now)) (range_with_len 0 (table_of system.now).size) }
 {
-    let mut lines = [Line {
-        coefficients: [Interval::zero(); 6],
-        right: Interval::zero(),
-    }; 6];
+    let mut lines = ArrayVec::new();
     for i in 0..system.size() {
-        lines[i] = line(system, i);
+        lines.push(Line::new(system, i));
     }
     lines
 }
@@ -144,10 +120,8 @@ impl Enclosure for Elimination {
     fn enclose(&self, system: &System, row: &mut [Interval; 6]) -> Result<(), Fault> {
         let n = system.size();
         let mut components = [Interval::zero(); 6];
-        solve_from(0, n, &mut lines(system), &mut components)?;
-        for i in 0..n {
-            row[i] = components[i];
-        }
+        solve(lines(system).as_mut_slice(), &mut components[..n])?;
+        row[..n].copy_from_slice(&components[..n]);
         Ok(())
     }
 }

@@ -1,12 +1,66 @@
 //! The working rows of elimination.
-ghost use Rattle.std.specs.Prelude.{◌≡◌, length};
+ghost use Rattle.std.specs.Prelude.{◌≡◌, ◌<◌, ◌≤◌, map, length, drop};
+ghost use Rattle.grains.specs.Arithmetic.{ends_of};
+ghost use Rattle.systems.specs.Tables.{table_of};
+ghost use Rattle.enclosures.specs.Elimination.{lead, row_of};
+ghost use Rattle.enclosures.specs.Working.{viewed};
 
+use crate::scaling::in_grains;
+use arrayvec::ArrayVec;
 use grains::interval::Interval;
+use systems::system::System;
 
-/// A row of working intervals: the coefficients of the unknowns, and the right-hand side.
-#[derive(Clone, Copy)]
+/// A row of working intervals: the coefficients of the unknowns that are left, and the right-hand side.
+#[derive(Drop)]
 pub struct Line {
-    pub coefficients: [Interval; 6],
+    pub coefficients: ArrayVec<Interval, 6>,
     pub right: Interval,
-    ghost full: { length coefficients ≡ 6 },
+}
+
+// A line of no unknown.
+impl Default for Line {
+    fn default() -> Line {
+        Line {
+            coefficients: ArrayVec::new(),
+            right: Interval::zero(),
+        }
+    }
+}
+
+impl Line {
+    // Row i of a system.
+    pub fn new(system: &System, i: usize) -> Line
+        requires { i < (table_of system.now).size }
+        ensures { viewed result ≡ row_of (table_of system.now) i }
+    {
+        let n = system.size();
+        let start = i * (n + 1);
+        let mut coefficients = ArrayVec::new();
+        for entry in &system.entries()[start..start + n] {
+            coefficients.push(in_grains(*entry));
+        }
+        Line {
+            coefficients,
+            right: in_grains(system.entry_or_zero(start + n)),
+        }
+    }
+
+    // The coefficient of the first unknown that is left; [0, 0] where none is.
+    pub fn lead(&self) -> Interval
+        ensures { ends_of result ≡ lead (viewed self.now) }
+    {
+        self.coefficients
+            .as_slice()
+            .first()
+            .copied()
+            .unwrap_or(Interval::zero())
+    }
+
+    // The coefficients of the other unknowns.
+    pub fn rest(&self) -> &[Interval]
+        ensures value { map ends_of result.now ≡ drop 1 (viewed self.now).coefficients }
+        ensures few { length result.now ≤ 6 }
+    {
+        self.coefficients.as_slice().get(1..).unwrap_or(&[])
+    }
 }

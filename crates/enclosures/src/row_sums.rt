@@ -33,7 +33,9 @@ fn magnitude(entry: Entry) -> i64
     absolute(entry.low()).max(absolute(entry.high()))
 }
 
-// Whether 0 lies in an entry, ends included.
+// Whether 0 lies in an entry, ends included. Like the absolute values here it speaks of entries as they stand, and an interval's own
+// method of figures, so that one for both would only add a change of scale.
+#[tactic(auto, unfolding(grains::specs::Arithmetic::contains_zero))]
 fn contains_zero(entry: Entry) -> bool
     ensures { result ≡ contains_zero (entry_ends entry) }
 {
@@ -70,6 +72,7 @@ fn excess(system: &System, i: usize) -> i64
 {
     let n = system.size();
     let mut g = mignitude(system.entry_or_zero(i * (n + 1) + i));
+    // By number: the diagonal entry is told by j, and a chain has no bound on a sum of signed numbers.
     for j in 0..n {
         g -= besides(system, i, j);
     }
@@ -77,6 +80,7 @@ fn excess(system: &System, i: usize) -> i64
 }
 
 // `size * GRAINS / g`, rounded up to a whole grain.
+// Written here and not taken from the intervals: theirs rounds quotients of figures, and as a public call it would ask for its divisor.
 fn over(size: i64, g: i64) -> i64
     requires size { Within (pos 0) (pos 65536) size }
     requires divisor { Within (pos 1) (pos 65536) g }
@@ -143,10 +147,7 @@ impl Enclosure for RowSums {
     /// whose diagonal entry does not outweigh the others, changes none of the six.
     fn enclose(&self, system: &System, row: &mut [Interval; 6]) -> Result<(), Fault> {
         let alpha = greatest_bound(system)?;
-        let component = around_zero(alpha);
-        for i in 0..system.size() {
-            row[i] = component;
-        }
+        row[..system.size()].fill(around_zero(alpha));
         Ok(())
     }
 }

@@ -1,5 +1,5 @@
 //! The Gauss-Seidel sweep: a method above another method, whose row it narrows.
-ghost use Rattle.std.specs.Prelude.{◌≡◌, ◌<◌, ◌≤◌, map, take, drop};
+ghost use Rattle.std.specs.Prelude.{◌≡◌, ◌<◌, map, length};
 ghost use Rattle.grains.specs.Arithmetic.{ends_of, answer_of};
 ghost use Rattle.systems.specs.Tables.{table_of};
 ghost use Rattle.enclosures.specs.Methods.{component_of};
@@ -10,47 +10,43 @@ ghost use Rattle.enclosures.specs.SweepLaws.{sweep_shaped, sweep_solvable, sweep
 use crate::enclosure::Enclosure;
 use crate::fault::Fault;
 use crate::line::Line;
-use crate::working::{less_products, line};
+use crate::working::less_products;
 use grains::interval::{ArithmeticError, Interval};
 use systems::system::System;
 
 // The line solved for unknown i by the other components.
-fn solved_for(
-    line: &Line,
-    components: &[Interval; 6],
-    i: usize,
-    n: usize,
-) -> Result<Interval, ArithmeticError>
-    requires below { i < n }
-    requires few { n ≤ 6 }
-    ensures { answer_of result ≡ solved_for (viewed 0 n line.now) i (take n (map ends_of components.now)) }
+fn solved_for(line: &Line, components: &[Interval], i: usize) -> Result<Interval, ArithmeticError>
+    requires below { i < length components.now }
+    requires same { length line.now.coefficients.items ≡ length components.now }
+    ensures { answer_of result ≡ solved_for (viewed line.now) i (map ends_of components.now) }
 {
-    let before = less_products(line.right, line, components, 0, i)?;
-    let rest = less_products(before, line, components, i + 1, n)?;
-    rest.quotient(line.coefficients[i])
+    let coefficients = line.coefficients.as_slice();
+    let before = less_products(line.right, &coefficients[..i], &components[..i])?;
+    let rest = less_products(before, &coefficients[i + 1..], &components[i + 1..])?;
+    rest.quotient(coefficients[i])
 }
 
 // Component i, narrowed by its line; as it was where a step has no answer.
-fn narrowed(line: &Line, components: &[Interval; 6], i: usize, n: usize) -> Interval
-    requires below { i < n }
-    requires few { n ≤ 6 }
-    ensures { ends_of result ≡ narrowed_by (component_of (take n (map ends_of components.now)) i) (solved_for (viewed 0 n line.now) i (take n (map ends_of components.now))) }
+fn narrowed(line: &Line, components: &[Interval], i: usize) -> Interval
+    requires below { i < length components.now }
+    requires same { length line.now.coefficients.items ≡ length components.now }
+    ensures { ends_of result ≡ narrowed_by (component_of (map ends_of components.now) i) (solved_for (viewed line.now) i (map ends_of components.now)) }
 {
     let old = components[i];
-    match solved_for(line, components, i, n) {
+    match solved_for(line, components, i) {
         Ok(new) => old.common(new).unwrap_or(old),
         Err(_) => old,
     }
 }
 
 // Narrows each component in turn, using those that were narrowed before it.
-fn narrow_all(system: &System, row: &mut [Interval; 6])
-    ensures front { take (table_of system.now).size (map ends_of row.new) ≡ swept_from (table_of system.now).size 0 (table_of system.now) (take (table_of system.now).size (map ends_of row.old)) }
-    ensures rest { drop (table_of system.now).size row.new ≡ drop (table_of system.now).size row.old }
+fn narrow_all(system: &System, row: &mut [Interval])
+    requires { length row.old ≡ (table_of system.now).size }
+    ensures { map ends_of row.new ≡ swept_from (table_of system.now).size 0 (table_of system.now) (map ends_of row.old) }
 {
-    let n = system.size();
-    for i in 0..n {
-        row[i] = narrowed(&line(system, i), row, i, n);
+    // By index: each step reads the whole row and writes one place of it.
+    for i in 0..row.len() {
+        row[i] = narrowed(&Line::new(system, i), row, i);
     }
 }
 
@@ -91,7 +87,7 @@ impl<M: Enclosure> Enclosure for Sweep<M> {
     /// The row of the method below, each component narrowed by the row of its unknown. It refuses exactly where that method does, with its fault.
     fn enclose(&self, system: &System, row: &mut [Interval; 6]) -> Result<(), Fault> {
         self.below.enclose(system, row)?;
-        narrow_all(system, row);
+        narrow_all(system, &mut row[..system.size()]);
         Ok(())
     }
 }

@@ -7,61 +7,71 @@ use outcomes::reading::Reading;
 use outcomes::refusal::SearchRefusal;
 use partition::rules::Widest;
 use searches::search::Search;
-use std::io;
+use std::{fmt, io};
 use systems::draft::Draft;
 use systems::refusal::Refusal;
+use systems::system::System;
 
-// Prints a reading as one line.
-fn show(rt: &impl Print, name: &str, reading: Reading) -> io::Result<()> {
-    let low = reading.low;
-    let high = reading.high;
-    let waiting = reading.waiting;
-    let splits = reading.splits;
-    let settled = if reading.settled {
-        "settled"
-    } else {
-        "not settled"
-    };
-    println!(rt; "{name}: low {low}, high {high}, {waiting} waiting, {splits} splits, {settled}")
+/// A call of the search by its name, and what it answered.
+#[derive(Clone, Copy)]
+struct Step {
+    name: &'static str,
+    answer: Result<Reading, SearchRefusal>,
 }
 
-// Prints the number of a refusal.
-fn show_refusal(rt: &impl Print, name: &str, refusal: SearchRefusal) -> io::Result<()> {
-    let number = refusal.number();
-    println!(rt; "{name}: refused {number}")
+impl fmt::Display for Step {
+    fn fmt<W: fmt::Write>(&self, f: &mut fmt::Formatter<W>) -> fmt::Result {
+        write!(f, "{}: ", self.name)?;
+        match self.answer {
+            Ok(reading) => {
+                let low = reading.low;
+                let high = reading.high;
+                let waiting = reading.waiting;
+                let splits = reading.splits;
+                let settled = if reading.settled {
+                    "settled"
+                } else {
+                    "not settled"
+                };
+                write!(
+                    f,
+                    "low {low}, high {high}, {waiting} waiting, {splits} splits, {settled}"
+                )
+            }
+            Err(refusal) => write!(f, "refused {}", refusal.number()),
+        }
+    }
 }
 
-// The row, still a draft.
-fn row() -> Result<Draft, Refusal> {
+// The row as a system.
+fn row() -> Result<System, Refusal> {
     let mut draft = Draft::new();
     draft.set(0, 2, 4)?;
     draft.set(1, 1, 3)?;
-    Ok(draft)
+    Ok(draft.close())
 }
 
 // Searches for the least value of the one component.
-fn search_in(rt: &(impl Print + AllocGlobal), draft: Draft) -> io::Result<()> {
-    let system = draft.close();
+fn search_in(rt: &(impl Print + AllocGlobal), system: System) -> io::Result<()> {
     let mut search = Search::new(rt.alloc(), system, Elimination, Widest)?;
-    match search.start(1) {
-        Ok(reading) => show(rt, "start", reading)?,
-        Err(refusal) => show_refusal(rt, "start", refusal)?,
-    }
-    for _split in 0..3u32 {
-        match search.split() {
-            Ok(reading) => show(rt, "split", reading)?,
-            Err(refusal) => show_refusal(rt, "split", refusal)?,
-        }
+    let started = Step {
+        name: "start",
+        answer: search.start(1),
+    };
+    println!(rt; "{started}")?;
+    for _ in 0..3u32 {
+        let split = Step {
+            name: "split",
+            answer: search.split(),
+        };
+        println!(rt; "{split}")?;
     }
     Ok(())
 }
 
-fn main(rt: HostRuntime) -> Result<(), io::Error> {
+fn main(rt: HostRuntime) -> io::Result<()> {
     match row() {
-        Ok(draft) => search_in(&rt, draft),
-        Err(refusal) => {
-            let number = refusal.number();
-            println!(&rt; "refused {number}")
-        }
+        Ok(system) => search_in(&rt, system),
+        Err(refusal) => println!(&rt; "{refusal}"),
     }
 }

@@ -13,6 +13,7 @@ use Rattle.searches.specs.declared.lowest.NoFigure.TheVariants as no
 use Rattle.searches.specs.Lowest.{NeverBelow}
 use Rattle.solver.specs.Solving.{found_for}
 use Rattle.hostcall.specs.declared.answer.CallRefusal.{CallRefusal}
+use Rattle.hostcall.specs.declared.answer.CallRefusal.TheVariants as call
 
 -- a figure as 64 bits in two's complement: `negsuc n` is -(n + 1)
 abbrev pub bits64 : ℤ → ℕ
@@ -45,15 +46,21 @@ abbrev pub no_figure_number : NoFigure → ℕ
 no_figure_number no.Memory = 30
 no_figure_number (no.Refused e) = search_number e
 
+-- 14: the buffer has no room
+abbrev pub call_number : CallRefusal → ℕ
+call_number (call.Job e) = number_of e
+call_number call.ShortBuffer = 14
+call_number (call.Search e) = no_figure_number e
+
 -- an answer is the one asked for, unless memory was wanted
 abbrev pub Asked : Result Report CallRefusal → Result Report ℕ → Type 0
 Asked (Ok x) o = o ≡ Ok x
-Asked (Err e) o = (o ≡ Err e.number) ⊎ (e.number ≡ 30)
+Asked (Err e) o = (o ≡ Err (call_number e)) ⊎ (call_number e ≡ 30)
 
 -- no refusal has the number 0
 abbrev pub Named : Result Report CallRefusal → Type 0
 Named (Ok x) = Unit {0}
-Named (Err e) = e.number ≡ 0 → ⊥
+Named (Err e) = call_number e ≡ 0 → ⊥
 
 -- the low figure that is answered is at most component c, counted from 1, of every rational solution of every point system inside the job's system
 abbrev pub Sound : Result Report CallRefusal → List ℕ → ℕ → Type 0

@@ -1,40 +1,38 @@
 // The answer of a call as 40 bytes.
-ghost use Rattle.std.specs.Prelude.{◌≡◌, ◌+◌, ◌≤◌, ◌++◌, length, drop};
-ghost use Rattle.jobs.specs.Writing.{overwritten};
-ghost use Rattle.hostcall.specs.Calling.{bits64, eight_bytes, framed};
+ghost use Rattle.std.specs.Prelude.{◌≡◌, ◌≤◌, ◌++◌, length, drop};
+ghost use Rattle.std.specs.List.{flat_map};
+ghost use Rattle.hostcall.specs.Calling.{framed};
 
-use outcomes::reading::Report;
+use outcomes::reading::{Reading, Report};
 
-// Writes eight bytes over the buffer from a position on.
-fn put(buffer: &mut [u8], at: usize, bytes: &[u8; 8])
-    requires { at + 8 ≤ length buffer.old }
-    ensures { buffer.new ≡ overwritten buffer.old at bytes.now }
+// The bytes that a call writes.
+pub(crate) const FRAME: usize = 40;
+
+// Low, high, waiting, splits and stop, eight bytes each with the highest first; the figures in two's complement.
+#[tactic(auto, using(crate::proofs::Frames::bits_machine), unfolding(crate::specs::Calling::framed, crate::specs::Calling::eight_bytes))]
+fn parts(report: Report) -> [[u8; 8]; 5]
+    ensures { flat_map (λ part. part) result ≡ framed report }
 {
-    buffer[at..at + 8].copy_from_slice(bytes);
+    let Reading {
+        low,
+        high,
+        waiting,
+        splits,
+        ..
+    } = report.reading;
+    [
+        low.to_be_bytes(),
+        high.to_be_bytes(),
+        (waiting as u64).to_be_bytes(),
+        splits.to_be_bytes(),
+        u64::from(report.stop.number()).to_be_bytes(),
+    ]
 }
 
-// A figure in two's complement, the highest byte first.
-fn figure_bytes(figure: i64) -> [u8; 8]
-    ensures { result ≡ eight_bytes (bits64 figure) }
-{
-    figure.to_be_bytes()
-}
-
-// A count, the highest byte first.
-fn count_bytes(count: u64) -> [u8; 8]
-    ensures { result ≡ eight_bytes count }
-{
-    count.to_be_bytes()
-}
-
-// Writes low, high, waiting, splits and stop into the first 40 bytes.
+// Writes the parts of a report into the first 40 bytes.
 pub(crate) fn put_report(out: &mut [u8], report: Report)
     requires { 40 ≤ length out.old }
     ensures { out.new ≡ framed report ++ drop 40 out.old }
 {
-    put(out, 0, &figure_bytes(report.reading.low));
-    put(out, 8, &figure_bytes(report.reading.high));
-    put(out, 16, &count_bytes(report.reading.waiting as u64));
-    put(out, 24, &count_bytes(report.reading.splits));
-    put(out, 32, &count_bytes(u64::from(report.stop.number())));
+    out[..FRAME].copy_from_slice(parts(report).as_flattened());
 }

@@ -25,6 +25,6 @@ pub extern "C" fn lowline_solve(
             put_report(out, report);
             0
         }
-        Err(refusal) => refusal.number,
+        Err(refusal) => refusal.number(),
     }
 }

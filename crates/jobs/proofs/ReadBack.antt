@@ -142,11 +142,13 @@ size_back n rest = left_size (blank n) 0 None (83 ∷ 90 ∷ n ∷ rest) (size_s
 pub parsed-written : (s : System) → ReadsBack (table_of s)
 unfolding written tabled blank rising
 parsed-written s =
-    let es = take (places_of s.size) s.entries in
-    let same : take (places_of s.size) (map ends_of s.entries) ≡ map ends_of es = take-map ends_of (places_of s.size) s.entries in
-    let full : length es ≡ places_of s.size = sym (length-map es ends_of) ∙ ap length (sym same) ∙ entries_full s in
-    let whole = entries_back s.size [] None es (omega arith) (λ k h. refl) in
-    size_back s.size (records_from 0 (take (places_of s.size) (map ends_of s.entries)) ++ 90 ∷ 90 ∷ [])
-    ∙ ap (λ o. and_then o (λ t. records t None 0 (records_from 0 (take (places_of s.size) (map ends_of s.entries)) ++ 90 ∷ 90 ∷ []))) (accepted_size s.size s.some s.few)
-    ∙ (λ i. records (record { size = s.size; entries = replicate (sym full i) zero_ends }) None 0 (records_from 0 (same i) ++ 90 ∷ 90 ∷ []))
-    ∙ whole ∙ ap (λ xs. Ok (record { size = s.size; entries = xs })) (sym same)
+    let held = s.draft in
+    let n = held.size.rows in
+    let es = take (places_of n) held.entries in
+    let same : take (places_of n) (map ends_of held.entries) ≡ map ends_of es = take-map ends_of (places_of n) held.entries in
+    let full : length es ≡ places_of n = sym (length-map es ends_of) ∙ ap length (sym same) ∙ entries_full s in
+    let whole = entries_back n [] None es (omega arith) (λ k h. refl) in
+    size_back n (records_from 0 (take (places_of n) (map ends_of held.entries)) ++ 90 ∷ 90 ∷ [])
+    ∙ ap (λ o. and_then o (λ t. records t None 0 (records_from 0 (take (places_of n) (map ends_of held.entries)) ++ 90 ∷ 90 ∷ []))) (accepted_size n held.size.some held.size.few)
+    ∙ (λ i. records (record { size = n; entries = replicate (sym full i) zero_ends }) None 0 (records_from 0 (same i) ++ 90 ∷ 90 ∷ []))
+    ∙ whole ∙ ap (λ xs. Ok (record { size = n; entries = xs })) (sym same)

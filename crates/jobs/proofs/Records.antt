@@ -1,18 +1,22 @@
 -- The records of entries one after another, and bytes written over a list. Assumes nothing.
-use Rattle.std.proofs.Common.{◌≡◌, ℕ, suc, ◌+◌, ◌-◌, ◌*◌, ◌^◌, ◌<◌, ◌≤◌, true, false, cond, List, [], ◌∷◌, ◌++◌, length, get_or, take, drop, ℤ, pos, negsuc, Ok, Err, sym, refl, ap, ◌∙◌, append_assoc, add-zero, zero-add, arith, length-append, length-take, drop-drop, to_z-of_z, w32, to_z, of_z}
+use Rattle.std.proofs.Common.{◌≡◌, ℕ, suc, ◌+◌, ◌-◌, ◌*◌, ◌^◌, ◌<◌, ◌≤◌, true, false, cond, List, [], ◌∷◌, ◌++◌, map, length, get_or, take, drop, ℤ, pos, negsuc, Ok, Err, sym, refl, ap, ◌∙◌, append_assoc, add-zero, zero-add, arith, length-append, length-take, length-drop, drop-drop, count_by, not, to_z-of_z, w32, to_z, of_z}
 use lib.ListN.{length-map}
-use borrow.Rule.Slice.PartMut.{put_mid}
 use lib.Signed.{mag}
-use Rattle.std.proofs.lemmas.List.{append-nil, take_more, take-append-drop, take_at, take_all}
+use borrow.Rule.Slice.PartMut.{put_mid}
+use Rattle.std.proofs.lemmas.List.Sums.{sum_by-cons, count_by-le-length}
+use Rattle.std.proofs.lemmas.List.{append-nil, take_more, take-append-drop, take_at, take_all, get_or-map}
 use Rattle.std.proofs.lemmas.Slice.{drop-append-drop}
 use Rattle.algebra.specs.Ends.{Ends}
-use Rattle.systems.specs.Entries.{ends_of, thin}
-use Rattle.systems.specs.Tables.{Table, places_of, tabled, table_of, ends_at}
+use Rattle.systems.specs.Entries.{ends_of}
+use Rattle.systems.specs.Tables.{Table, places_of, table_of}
 use Rattle.systems.specs.declared.entry.Entry.{Entry}
 use Rattle.systems.specs.declared.refusal.Refusal.TheVariants.{BufferTooShort}
 use Rattle.systems.specs.declared.system.System.{System}
 use Rattle.systems.proofs.Contents.{places_few}
-use Rattle.jobs.specs.Writing.{bits_of, four_bytes, left_out, record_of, records_from, written, overwritten, Writes}
+use Rattle.systems.proofs.Tabled.{table_proper, entries_long}
+use Rattle.jobs.specs.declared.writer.Writer.{Writer}
+use Rattle.jobs.specs.Laying.{Room, Wrote}
+use Rattle.jobs.specs.Writing.{bits_of, four_bytes, left_out, full_record, record_of, records_from, written, overwritten, Writes}
 
 -- ---- records
 -- a record has none or eleven bytes, whatever the place
@@ -20,15 +24,13 @@ pub record_length : (p : ℕ) (e : Ends) → length (record_of p e) ≡ cond (le
 unfolding record_of four_bytes
 record_length p e = elim (left_out e) as (λ v. length (cond v [] (69 ∷ 78 ∷ p ∷ (four_bytes e.low ++ four_bytes e.high))) ≡ cond v 0 11) [ true ↦ refl | false ↦ refl ]
 
-pub record_few : (p : ℕ) (e : Ends) → length (record_of p e) ≤ 11
-record_few p e = let l = record_length p e in grind arith
-
 pub record_none : (p : ℕ) (e : Ends) → left_out e ≡ true → record_of p e ≡ []
 unfolding record_of
 record_none p e h = rw h
 
-pub record_long : (p : ℕ) (e : Ends) → left_out e ≡ false → length (record_of p e) ≡ 11
-record_long p e h = let l = record_length p e in rw h at l
+pub record_full : (p : ℕ) (e : Ends) → left_out e ≡ false → record_of p e ≡ full_record p e
+unfolding record_of
+record_full p e h = rw h refl
 
 pub records-append : (p : ℕ) (xs ys : List Ends) → records_from p (xs ++ ys) ≡ records_from p xs ++ records_from (p + length xs) ys
 unfolding records_from
@@ -56,19 +58,29 @@ records_within es k =
     ap (records_from 0) (sym (take-append-drop k es)) ∙ records-append 0 (take k es) (drop k es) in
     rw split (simp length-append (omega arith))
 
-pub records-few : (p : ℕ) (es : List Ends) → length (records_from p es) ≤ 11 * length es
+-- eleven bytes for each entry that has a record
+pub records-length : (p : ℕ) (es : List Ends) → length (records_from p es) ≡ 11 * count_by (λ e. not (left_out e)) es
 unfolding records_from
-records-few p [] = omega arith
-records-few p (e ∷ es) = let a = record_few p e in let b = records-few (p + 1) es in simp length-append (omega arith)
+records-length p [] = refl
+records-length p (e ∷ es) =
+    let here = record_length p e in
+    let rest = records-length (p + 1) es in
+    let more = sum_by-cons (λ x. cond (not (left_out x)) 1 0) e es in
+    simp length-append (grind arith)
+
+pub records-few : (p : ℕ) (es : List Ends) → length (records_from p es) ≤ 11 * length es
+records-few p es = omega (arith, records-length p es, count_by-le-length (λ e. not (left_out e)) es)
 
 -- ---- the entries of a system
 pub places_small : (s : System) → places_of (table_of s).size ≤ 42
-unfolding tabled
-places_small s = places_few s.size s.few
+places_small s = places_few (table_of s).size (table_proper s).few
 
 pub entries_full : (s : System) → length (table_of s).entries ≡ places_of (table_of s).size
-unfolding tabled
-entries_full s = let few = places_few s.size s.few in simp (length-take, length-map) (omega (arith, s.full))
+entries_full s = (table_proper s).complete
+
+-- a slice of a system's entries has at most 42
+pub entries_few : (s : System) (es : List Entry) → map ends_of es ≡ (table_of s).entries → length es ≤ 42
+entries_few s es same = let few = places_small s in let long = entries_long s es same in omega arith
 
 -- ---- writing over
 pub overwritten_none : (was : List ℕ) (at : ℕ) → overwritten was at [] ≡ was
@@ -78,6 +90,10 @@ overwritten_none was at = rw add-zero (take-append-drop at was)
 pub overwritten_front : (was bytes : List ℕ) → overwritten was 0 bytes ≡ bytes ++ drop (length bytes) was
 unfolding overwritten
 overwritten_front was bytes = rw zero-add
+
+pub overwritten_long : (was : List ℕ) (at : ℕ) (bytes : List ℕ) → at + length bytes ≤ length was → length (overwritten was at bytes) ≡ length was
+unfolding overwritten
+overwritten_long was at bytes h = simp (length-append, length-take, length-drop) (omega arith)
 
 pub overwritten_more : (was : List ℕ) (at : ℕ) (a b : List ℕ) → at + length a + length b ≤ length was → overwritten (overwritten was at a) (at + length a) b ≡ overwritten was at (a ++ b)
 unfolding overwritten
@@ -92,22 +108,65 @@ overwritten_more was at a b h =
     ∙ ap (λ bs. take at was ++ bs) (sym (append_assoc a b (drop (at + length a + length b) was)))
     ∙ ap (λ k. take at was ++ ((a ++ b) ++ drop k was)) sum
 
+-- pieces one after the other
+pub wrote_none : (w : Writer) → Wrote w w []
+wrote_none w = record { same = refl; end = rw add-zero refl; stands = sym (overwritten_none w.buffer.now w.at) }
+
+module _ (was mid : Writer) (front : List ℕ) (first : Wrote was mid front) where
+  pub room_on : (back : List ℕ) → Room was (front ++ back) → Room mid back
+  room_on back room =
+      let sum = length-append front back in
+      let whole = ap length first.stands ∙ overwritten_long was.buffer.now was.at front (omega (arith, room)) in
+      omega (arith, room, first.end)
+
+  pub wrote_on : (is : Writer) (back : List ℕ) → Room was (front ++ back) → Wrote mid is back → Wrote was is (front ++ back)
+  wrote_on is back room second =
+      let sum = length-append front back in
+      let on : was.at + length front + length back ≤ length was.buffer.now = omega (arith, room) in
+      record {
+        same = second.same ∙ first.same;
+        end = simp length-append (omega (arith, first.end, second.end));
+        stands = second.stands ∙ (λ i. overwritten (first.stands i) (first.end i) back) ∙ overwritten_more was.buffer.now was.at front back on;
+      }
+
+pub room_front : (w : Writer) (front back : List ℕ) → Room w (front ++ back) → Room w front
+room_front w front back room = let sum = length-append front back in omega (arith, room)
+
+-- a job piece by piece: SZ, the size, the records, ZZ
+module _ (start : Writer) (t : Table) where
+  abbrev records : List ℕ
+  records = records_from 0 t.entries
+
+  module _ (marked : Writer) (first : Wrote start marked (83 ∷ 90 ∷ [])) (room : Room start (written t)) where
+    size_on : Room marked (t.size ∷ (records ++ 90 ∷ 90 ∷ []))
+    unfolding written
+    size_on = room_on start marked (83 ∷ 90 ∷ []) first (t.size ∷ (records ++ 90 ∷ 90 ∷ [])) room
+
+    pub size_room : Room marked (t.size ∷ [])
+    size_room = room_front marked (t.size ∷ []) (records ++ 90 ∷ 90 ∷ []) size_on
+
+    module _ (sized : Writer) (second : Wrote marked sized (t.size ∷ [])) where
+      records_on : Room sized (records ++ 90 ∷ 90 ∷ [])
+      records_on = room_on marked sized (t.size ∷ []) second (records ++ 90 ∷ 90 ∷ []) size_on
+
+      pub records_room : Room sized records
+      records_room = room_front sized records (90 ∷ 90 ∷ []) records_on
+
+      module _ (filled : Writer) (third : Wrote sized filled records) where
+        pub end_room : Room filled (90 ∷ 90 ∷ [])
+        end_room = room_on sized filled records third (90 ∷ 90 ∷ []) records_on
+
+        pub job_wrote : (done : Writer) → Wrote filled done (90 ∷ 90 ∷ []) → Wrote start done (written t)
+        unfolding written
+        job_wrote done fourth =
+            wrote_on start marked (83 ∷ 90 ∷ []) first done (t.size ∷ (records ++ 90 ∷ 90 ∷ [])) room
+            (wrote_on marked sized (t.size ∷ []) second done (records ++ 90 ∷ 90 ∷ []) size_on
+            (wrote_on sized filled records third done (90 ∷ 90 ∷ []) records_on fourth))
+
 -- the bits of a number are the machine's
 pub bits_machine : (z : ℤ) → bits_of z ≡ of_z w32 z
 bits_machine (pos n) = refl
 bits_machine (negsuc n) = refl
-
--- a record that is written in four parts
-pub record_put : (was : List ℕ) (at p : ℕ) (e : Ends) (low high one two three four : List ℕ) → left_out e ≡ false → at + 11 ≤ length was
-    → low ≡ four_bytes e.low → high ≡ four_bytes e.high → one ≡ overwritten was at (69 ∷ 78 ∷ []) → two ≡ overwritten one (at + 2) (p ∷ [])
-    → three ≡ overwritten two (at + 3) low → four ≡ overwritten three (at + 7) high → four ≡ overwritten was at (record_of p e)
-unfolding record_of four_bytes
-record_put was at p e low high one two three four some h l r a b c d =
-    let two' : two ≡ overwritten was at (69 ∷ 78 ∷ p ∷ []) = b ∙ ap (λ bs. overwritten bs (at + 2) (p ∷ [])) a ∙ overwritten_more was at (69 ∷ 78 ∷ []) (p ∷ []) (omega arith) in
-    let three' : three ≡ overwritten was at (69 ∷ 78 ∷ p ∷ four_bytes e.low) =
-    c ∙ (λ i. overwritten (two' i) (at + 3) (l i)) ∙ overwritten_more was at (69 ∷ 78 ∷ p ∷ []) (four_bytes e.low) (omega arith) in
-    d ∙ (λ i. overwritten (three' i) (at + 7) (r i)) ∙ overwritten_more was at (69 ∷ 78 ∷ p ∷ four_bytes e.low) (four_bytes e.high) (omega arith)
-    ∙ ap (λ v. overwritten was at (cond v [] (69 ∷ 78 ∷ p ∷ (four_bytes e.low ++ four_bytes e.high)))) (sym some)
 
 -- the bytes of an end, as the code hands it over
 pub bytes_handed : (z x : ℤ) (bs : List ℕ) → mag x < 2 ^ 31 → x ≡ z → bs ≡ four_bytes (to_z w32 (of_z w32 x)) → bs ≡ four_bytes z
@@ -122,31 +181,16 @@ put_over was at bytes copied e =
 
 -- ---- the walk over the entries of a system
 -- the records of the entries before place k
-abbrev pub passed : System → ℕ → List ℕ
-passed s k = records_from 0 (take k (table_of s).entries)
+abbrev pub passed : List Entry → ℕ → List ℕ
+passed es k = records_from 0 (take k (map ends_of es))
 
-pub passed_none : (s : System) → passed s 0 ≡ []
-unfolding records_from
-passed_none s = refl
+pub passed_more : (es : List Entry) (k : ℕ) (e : Entry) → k < length es → e ≡ get_or es k e → passed es (k + 1) ≡ passed es k ++ record_of k (ends_of e)
+passed_more es k e h is =
+    records_more (map ends_of es) k (ends_of e) (simp length-map h)
+    ∙ ap (λ x. passed es k ++ record_of k x) (get_or-map ends_of es k e (ends_of e) h ∙ ap ends_of (sym is))
 
-pub passed_more : (s : System) (k : ℕ) (e : Entry) → k < places_of (table_of s).size → ends_of e ≡ ends_at (table_of s) k → passed s (k + 1) ≡ passed s k ++ record_of k (ends_of e)
-passed_more s k e h is =
-    let full = entries_full s in
-    records_more (table_of s).entries k (thin (pos 0)) (omega arith) ∙ ap (λ x. passed s k ++ record_of k x) (sym is)
-
-pub passed_all : (s : System) (k : ℕ) → places_of (table_of s).size ≤ k → passed s k ≡ records_from 0 (table_of s).entries
-passed_all s k h = let full = entries_full s in ap (records_from 0) (take_all k (table_of s).entries (omega arith))
-
-pub passed_few : (s : System) (k : ℕ) → length (passed s k) ≤ 462
-passed_few s k =
-    let full = entries_full s in
-    let few = places_small s in
-    let within = records_within (table_of s).entries k in
-    let small = records-few 0 (table_of s).entries in
-    omega arith
-
-pub same_length : (p : ℕ) (e : Ends) → length (record_of 0 e) ≡ length (record_of p e)
-same_length p e = record_length 0 e ∙ sym (record_length p e)
+pub passed_all : (es : List Entry) (k : ℕ) → length es ≤ k → passed es k ≡ records_from 0 (map ends_of es)
+passed_all es k h = ap (records_from 0) (take_all k (map ends_of es) (simp length-map h))
 
 pub written-length : (t : Table) → length (written t) ≡ 5 + length (records_from 0 t.entries)
 unfolding written
@@ -157,25 +201,6 @@ written_short s =
     let full = entries_full s in
     let few = places_small s in
     omega (arith, written-length (table_of s), records-few 0 (table_of s).entries)
-
--- a job that is written in four parts
-pub job_put : (was : List ℕ) (t : Table) (one two three four : List ℕ) (end : ℕ) → length (written t) ≤ length was → end ≡ 3 + length (records_from 0 t.entries)
-    → one ≡ overwritten was 0 (83 ∷ 90 ∷ []) → two ≡ overwritten one 2 (t.size ∷ []) → three ≡ overwritten two 3 (records_from 0 t.entries)
-    → four ≡ overwritten three end (90 ∷ 90 ∷ []) → four ≡ written t ++ drop (length (written t)) was
-unfolding written
-job_put was t one two three four end h e a b c d =
-    let n = written-length t in
-    let records = records_from 0 t.entries in
-    let two' : two ≡ overwritten was 0 (83 ∷ 90 ∷ t.size ∷ []) = b ∙ ap (λ bs. overwritten bs 2 (t.size ∷ [])) a ∙ overwritten_more was 0 (83 ∷ 90 ∷ []) (t.size ∷ []) (omega arith) in
-    let three' : three ≡ overwritten was 0 (83 ∷ 90 ∷ t.size ∷ records) =
-    c ∙ ap (λ bs. overwritten bs 3 records) two' ∙ overwritten_more was 0 (83 ∷ 90 ∷ t.size ∷ []) records (omega arith) in
-    let on : end ≡ 0 + length (83 ∷ 90 ∷ t.size ∷ records) = omega arith in
-    d ∙ (λ i. overwritten (three' i) (on i) (90 ∷ 90 ∷ [])) ∙ overwritten_more was 0 (83 ∷ 90 ∷ t.size ∷ records) (90 ∷ 90 ∷ []) (omega arith)
-    ∙ overwritten_front was (written t)
-
-pub four_long : (z : ℤ) → length (four_bytes z) ≡ 4
-unfolding four_bytes
-four_long z = refl
 
 -- ---- what the writer answers
 pub writes_refused : (was bytes : List ℕ) → length was < length bytes → Writes (Err BufferTooShort) was was bytes

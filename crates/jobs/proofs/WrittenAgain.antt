@@ -5,7 +5,7 @@ use Rattle.std.proofs.lemmas.List.{set_at, length_push, drop_all, drop_more, get
 use Rattle.algebra.specs.Chaining.{and_then}
 use Rattle.algebra.specs.Ends.{Ends, from_to}
 use Rattle.systems.specs.Entries.{entry_of, thin}
-use Rattle.systems.specs.Tables.{Table, places_of, blank, sized, placed}
+use Rattle.systems.specs.Tables.{Table, places_of, blank, size_of, sized, placed}
 use Rattle.systems.specs.declared.refusal.Refusal.{Refusal}
 use Rattle.jobs.specs.declared.reader.Record.{Record}
 use Rattle.jobs.specs.declared.reader.Record.TheVariants.{Size, Entry as EntryRecord, End}
@@ -229,7 +229,7 @@ entries_again (suc fuel) n m front before bytes u few small full up made =
 
 -- the size record
 sized_is : (n : ℕ) (t : Table) → sized n ≡ Ok t → t ≡ blank n
-unfolding sized
+unfolding sized size_of
 sized_is n t e = grind arith
 
 size_again : (bytes : List ℕ) (u t : Table) → Small bytes → record_at First 0 None bytes ≡ Ok Size → sized (byte_at bytes 2) ≡ Ok t → records t None 0 (drop 3 bytes) ≡ Ok u → bytes ≡ written u

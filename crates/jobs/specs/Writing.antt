@@ -19,9 +19,13 @@ four_bytes z = (bits_of z / 16777216 % 256) ∷ (bits_of z / 65536 % 256) ∷ (b
 unfoldable pub left_out : Ends → Bool
 left_out e = is_zero e.low && is_zero e.high
 
+-- a record: EN, the place, and the low and the high end
+abbrev pub full_record : ℕ → Ends → List ℕ
+full_record p e = 69 ∷ 78 ∷ p ∷ (four_bytes e.low ++ four_bytes e.high)
+
 -- the record of the entry at place p, if it has one
 unfoldable pub record_of : ℕ → Ends → List ℕ
-record_of p e = cond (left_out e) [] (69 ∷ 78 ∷ p ∷ (four_bytes e.low ++ four_bytes e.high))
+record_of p e = cond (left_out e) [] (full_record p e)
 
 -- the records of entries that stand from place p on
 unfoldable pub records_from : ℕ → List Ends → List ℕ

@@ -29,11 +29,13 @@ enum Record {
 struct Reader<'a> {
     job: &'a [u8],
     at: usize,
+    // Beside the stage, and not in it: one guard asks for it, and the stage stands alone in each pattern.
     previous: Option<u8>,
     stage: Stage,
 }
 
 // The byte at a position.
+#[tactic(auto, unfolding(crate::specs::Reading::byte_at))]
 fn byte(job: &[u8], at: usize) -> u8
     requires { at < length job.now }
     ensures { result ≡ byte_at job.now at }
@@ -50,16 +52,15 @@ fn number(job: &[u8], at: usize) -> i32
 }
 
 // Whether a place is above the place before it.
+#[tactic(auto, unfolding(crate::specs::Reading::rising))]
 fn rises(previous: Option<u8>, place: u8) -> bool
     ensures { result ≡ rising previous place }
 {
-    match previous {
-        None => true,
-        Some(before) => before < place,
-    }
+    previous.is_none_or(|before| before < place)
 }
 
 // Sets an entry that a job may hold: one with an end other than 0.
+#[tactic(auto, unfolding(crate::specs::Reading::entered))]
 fn enter(draft: &mut Draft, place: u8, low: i32, high: i32) -> Result<(), Refusal>
     ensures { Entered result (drafted draft.new) (entered (drafted draft.old) place low high) }
 {

@@ -1,22 +1,23 @@
 //! Writing a job into the caller's buffer.
-ghost use Rattle.std.specs.Prelude.{◌≡◌, ◌+◌, ◌<◌, ◌≤◌, length};
+ghost use Rattle.std.specs.Prelude.{◌≡◌, ◌≤◌, length};
 ghost use Rattle.systems.specs.Entries.{ends_of};
 ghost use Rattle.systems.specs.Tables.{table_of};
-ghost use Rattle.jobs.specs.Writing.{four_bytes, left_out, overwritten, record_of, records_from, written, ReadsBack, Writes};
+ghost use Rattle.jobs.specs.Laying.{Room, Wrote};
+ghost use Rattle.jobs.specs.Writing.{four_bytes, full_record, left_out, record_of, records_from, written, ReadsBack, Writes};
 
 use systems::entry::Entry;
 use systems::refusal::Refusal;
 use systems::system::System;
 
-// Writes the bytes over the buffer from a position on.
-fn put(buffer: &mut [u8], at: usize, bytes: &[u8])
-    requires { at + length bytes.now ≤ length buffer.old }
-    ensures { buffer.new ≡ overwritten buffer.old at bytes.now }
-{
-    buffer[at..at + bytes.len()].copy_from_slice(bytes);
+// A walk over the buffer: where it stands.
+#[derive(Drop)]
+struct Writer<'a> {
+    buffer: &'a mut [u8],
+    at: usize,
 }
 
 // An end of an entry in two's complement, the highest byte first.
+#[tactic(auto, using(crate::proofs::Records::bits_machine), unfolding(crate::specs::Writing::four_bytes))]
 fn four_bytes(end: i32) -> [u8; 4]
     ensures { result ≡ four_bytes end }
 {
@@ -24,59 +25,63 @@ fn four_bytes(end: i32) -> [u8; 4]
 }
 
 // Whether a job leaves an entry out: it has no record of [0, 0].
+#[tactic(auto, unfolding(crate::specs::Writing::left_out))]
 fn is_left_out(entry: Entry) -> bool
     ensures { result ≡ left_out (ends_of entry) }
 {
     entry.low() == 0 && entry.high() == 0
 }
 
-// How many bytes the record of an entry takes, wherever it stands: none for an entry [0, 0].
-fn record_length(entry: Entry) -> usize
-    ensures { result ≡ length (record_of 0 (ends_of entry)) }
+// The record of the entry at a place.
+fn record(place: u8, entry: Entry) -> [u8; 11]
+    ensures { result ≡ full_record place (ends_of entry) }
 {
-    if is_left_out(entry) { 0 } else { 11 }
+    let [a, b, c, d] = four_bytes(entry.low());
+    let [e, f, g, h] = four_bytes(entry.high());
+    [b'E', b'N', place, a, b, c, d, e, f, g, h]
 }
 
-// How many bytes the job of a system takes.
+// How many bytes the job of a system takes: eleven for each entry that it does not leave out.
 fn job_length(system: &System) -> usize
     ensures { result ≡ length (written (table_of system.now)) }
 {
-    let mut length = 5;
-    for place in 0..system.places() {
-        length += record_length(system.entry_or_zero(place));
-    }
-    length
+    let records = system
+        .entries()
+        .iter()
+        .filter(|entry| !is_left_out(**entry))
+        .count();
+    5 + 11 * records
 }
 
-// Writes the record of the entry at a place from a position on, none for an entry [0, 0]; answers the position behind it.
-fn put_record(buffer: &mut [u8], at: usize, place: u8, entry: Entry) -> usize
-    requires { at + length (record_of place (ends_of entry)) ≤ length buffer.old }
-    ensures end { result ≡ at + length (record_of place (ends_of entry)) }
-    ensures bytes { buffer.new ≡ overwritten buffer.old at (record_of place (ends_of entry)) }
-{
-    if is_left_out(entry) {
-        return at;
+impl Writer<'_> {
+    // Writes bytes over the buffer, and stands behind them.
+    fn put(&mut self, bytes: &[u8])
+        requires { Room self.old bytes.now }
+        ensures { Wrote self.old self.new bytes.now }
+    {
+        self.buffer[self.at..self.at + bytes.len()].copy_from_slice(bytes);
+        self.at += bytes.len();
     }
-    let low = four_bytes(entry.low());
-    let high = four_bytes(entry.high());
-    put(buffer, at, b"EN");
-    put(buffer, at + 2, &[place]);
-    put(buffer, at + 3, &low);
-    put(buffer, at + 7, &high);
-    at + 11
-}
 
-// Writes the records of a system's entries from a position on; answers the position behind them.
-fn put_records(buffer: &mut [u8], from: usize, system: &System) -> usize
-    requires { from + length (records_from 0 (table_of system.now).entries) ≤ length buffer.old }
-    ensures end { result ≡ from + length (records_from 0 (table_of system.now).entries) }
-    ensures bytes { buffer.new ≡ overwritten buffer.old from (records_from 0 (table_of system.now).entries) }
-{
-    let mut at = from;
-    for place in 0..system.places() {
-        at = put_record(buffer, at, place as u8, system.entry_or_zero(place));
+    // Writes the record of the entry at a place, none for an entry [0, 0].
+    fn record(&mut self, place: u8, entry: Entry)
+        requires { Room self.old (record_of place (ends_of entry)) }
+        ensures { Wrote self.old self.new (record_of place (ends_of entry)) }
+    {
+        if !is_left_out(entry) {
+            self.put(&record(place, entry));
+        }
     }
-    at
+
+    // Writes the records of a system's entries.
+    fn records(&mut self, system: &System)
+        requires { Room self.old (records_from 0 (table_of system.now).entries) }
+        ensures { Wrote self.old self.new (records_from 0 (table_of system.now).entries) }
+    {
+        for (place, entry) in system.entries().iter().enumerate() {
+            self.record(place as u8, *entry);
+        }
+    }
 }
 
 /// Writes the job of a system, at most 467 bytes, into the front of the buffer and answers its length; later bytes are left as
@@ -90,9 +95,10 @@ pub fn write(system: &System, buffer: &mut [u8]) -> Result<usize, Refusal>
     if buffer.len() < length {
         return Err(Refusal::BufferTooShort);
     }
-    put(buffer, 0, b"SZ");
-    put(buffer, 2, &[system.size() as u8]);
-    let end = put_records(buffer, 3, system);
-    put(buffer, end, b"ZZ");
+    let mut writer = Writer { buffer, at: 0 };
+    writer.put(b"SZ");
+    writer.put(&[system.size() as u8]);
+    writer.records(system);
+    writer.put(b"ZZ");
     Ok(length)
 }

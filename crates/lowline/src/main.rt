@@ -1,33 +1,45 @@
 //! Reads a job from standard input and prints, for each component of the solutions of its system, a figure that it is never below.
 #![tactic(auto)]
 
-ghost use Rattle.std.specs.Prelude.{◌≤◌, IfOk};
-
 use solver::line::find_line;
 use solver::solving::system_of;
 use std::io::Read;
+use std::str::FromStr;
 use std::{env, io};
 use systems::system::System;
 
 /// How many bytes of the input are read; the largest job has fewer.
-const ROOM: usize = 512;
+const ROOM: u64 = 512;
 
-// Fills the buffer from the input; answers how many bytes came before its end.
-fn fill<R: Read>(input: &mut R, buffer: &mut [u8; ROOM]) -> io::Result<usize>
-    ensures { IfOk result (λ n. n ≤ 512) }
-{
-    let mut len: usize = 0;
-    for _ in 0..ROOM {
-        if len >= ROOM {
-            break;
-        }
-        let more = input.read(&mut buffer[len..])?;
-        if more == 0 {
-            break;
-        }
-        len += more;
+/// What the words after the program's name ask for.
+#[derive(Clone, Copy, PartialEq, Eq, Debug)]
+enum Wish {
+    Solve,
+    Help,
+}
+
+/// Why no wish is known.
+#[derive(Debug, Drop)]
+enum NoWish {
+    UnknownWord,
+    NoWords(io::Error),
+}
+
+impl From<io::Error> for NoWish {
+    fn from(error: io::Error) -> NoWish {
+        NoWish::NoWords(error)
     }
-    Ok(len)
+}
+
+impl FromStr for Wish {
+    type Err = NoWish;
+
+    fn from_str(word: &str) -> Result<Wish, NoWish> {
+        match word {
+            "--help" => Ok(Wish::Help),
+            _ => Err(NoWish::UnknownWord),
+        }
+    }
 }
 
 fn help(rt: &HostRuntime) -> io::Result<()> {
@@ -49,54 +61,39 @@ fn help(rt: &HostRuntime) -> io::Result<()> {
 // A line for each component.
 fn print_lines(rt: &HostRuntime, system: System) -> io::Result<()> {
     println!(rt; "comp low high waiting splits stop")?;
-    for i in 0..system.size() {
-        let line = find_line(rt.alloc(), system, i + 1)?;
+    for component in 1..=system.size() {
+        let line = find_line(rt.alloc(), system, component)?;
         println!(rt; "{line}")?;
     }
     Ok(())
 }
 
 fn solve_input(rt: &HostRuntime) -> io::Result<()> {
-    let mut buffer = [0u8; ROOM];
-    let len = fill(&mut rt.stdin(), &mut buffer)?;
-    match system_of(&buffer[0..len]) {
+    let mut job = Vec::new(rt.alloc());
+    rt.stdin().take(ROOM).read_to_end(&mut job)?;
+    match system_of(&job) {
         Ok(system) => print_lines(rt, system),
-        Err(refusal) => {
-            let number = refusal.number();
-            println!(rt; "refused {number}")
-        }
+        Err(refusal) => println!(rt; "{refusal}"),
     }
 }
 
-// What the words after the program's name ask for.
-#[derive(Clone, Copy)]
-enum Wish {
-    Solve,
-    Help,
-    Unknown,
-}
-
-// A word that is not known counts before one that is.
-fn asked(rt: &HostRuntime) -> io::Result<Wish> {
+// The last word's wish; a word that is not known counts before all that are.
+fn asked(rt: &HostRuntime) -> Result<Wish, NoWish> {
     let mut wish = Wish::Solve;
-    let mut known = true;
     for word in env::args(rt)?.skip(1) {
-        if word.as_str() == "--help" {
-            wish = Wish::Help;
-        } else {
-            known = false;
-        }
+        wish = word.as_str().parse()?;
     }
-    if known { Ok(wish) } else { Ok(Wish::Unknown) }
+    Ok(wish)
 }
 
 fn main(rt: HostRuntime) -> io::Result<()> {
-    match asked(&rt)? {
-        Wish::Solve => solve_input(&rt),
-        Wish::Help => help(&rt),
-        Wish::Unknown => {
+    match asked(&rt) {
+        Ok(Wish::Solve) => solve_input(&rt),
+        Ok(Wish::Help) => help(&rt),
+        Err(NoWish::UnknownWord) => {
             rt.eprintln("lowline: it takes no word but --help")?;
             Err(io::Error::from(io::ErrorKind::InvalidInput))
         }
+        Err(NoWish::NoWords(error)) => Err(error),
     }
 }

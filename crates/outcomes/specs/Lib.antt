@@ -1,4 +1,5 @@
 pub mod Refusals
+pub mod Texts
 pub mod Waiting
 pub mod Searching
 pub mod Promise

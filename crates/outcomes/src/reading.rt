@@ -1,6 +1,9 @@
 //! What the calls of a search answer.
-ghost use Rattle.std.specs.Prelude.{◌≡◌};
+ghost use Rattle.std.specs.Prelude.{◌≡◌, Some};
 ghost use Rattle.outcomes.specs.Refusals.{stop_number};
+ghost use Rattle.outcomes.specs.Texts.{stop_word};
+
+use std::fmt;
 
 /// A search as it stands: its low and its high figure in grains, how many records wait, how many splits were made, and whether it is
 /// settled.
@@ -13,15 +16,15 @@ pub struct Reading {
     pub settled: bool,
 }
 
-/// Why a run ended.
+/// Why a run ended; the value of a case is its number.
 #[derive(Clone, Copy, PartialEq, Eq, Debug)]
 pub enum Stop {
-    /// 1: the search is settled.
-    Settled,
-    /// 2: 512 records wait.
-    Full,
-    /// 3: the budget is used.
-    Budget,
+    /// The search is settled.
+    Settled = 1,
+    /// 512 records wait.
+    Full = 2,
+    /// The budget is used.
+    Budget = 3,
 }
 
 impl Stop {
@@ -29,11 +32,19 @@ impl Stop {
     pub fn number(self) -> u32
         ensures { result ≡ stop_number self }
     {
-        match self {
-            Stop::Settled => 1,
-            Stop::Full => 2,
-            Stop::Budget => 3,
-        }
+        self as u32
+    }
+}
+
+impl fmt::Display for Stop {
+    ghost output = { λ stop. Some (stop_word stop) };
+
+    fn fmt<W: fmt::Write>(&self, f: &mut fmt::Formatter<W>) -> fmt::Result {
+        f.write_str(match self {
+            Stop::Settled => "settled",
+            Stop::Full => "full",
+            Stop::Budget => "budget",
+        })
     }
 }
 

@@ -1,9 +1,12 @@
 //! Why a call of a search is refused.
-ghost use Rattle.std.specs.Prelude.{◌≡◌};
+ghost use Rattle.std.specs.Prelude.{◌≡◌, Some};
 ghost use Rattle.outcomes.specs.declared.refusal.SearchRefusal.TheVariants.{ByMethod};
 ghost use Rattle.outcomes.specs.Refusals.{number_of};
+ghost use Rattle.outcomes.specs.Texts.{refusal_text};
 
 use enclosures::fault::Fault;
+use std::error::Error;
+use std::fmt;
 
 /// Why a call of a search is refused.
 #[derive(Clone, Copy, PartialEq, Eq, Debug)]
@@ -45,3 +48,14 @@ impl SearchRefusal {
         }
     }
 }
+
+impl fmt::Display for SearchRefusal {
+    ghost output = { λ refusal. Some (refusal_text refusal) };
+
+    fn fmt<W: fmt::Write>(&self, f: &mut fmt::Formatter<W>) -> fmt::Result {
+        let number = self.number();
+        write!(f, "refused {number}")
+    }
+}
+
+impl Error for SearchRefusal {}

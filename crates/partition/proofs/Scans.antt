@@ -1,6 +1,7 @@
 -- The greatest of the wide places, and a scan for it. Assumes nothing.
 use Rattle.std.specs.Prelude.{◌≡◌, ℕ, zero, suc, ◌<◌, Bool, true, false, cond, ℤ, ◌≤ℤ◌, ◌<ℤ◌, Some, None, Option, int_lt, refl}
-use Rattle.std.proofs.Common.{arith, sym, subst, below_more}
+use Rattle.std.specs.Option.{option_map}
+use Rattle.std.proofs.Common.{arith, ap, sym, subst, below_more}
 use Rattle.std.proofs.lemmas.Int.{ints}
 use Rattle.partition.specs.declared.rules.Best.{Best}
 use Rattle.partition.specs.Choosing.{Greatest, better, best_below}
@@ -73,3 +74,10 @@ module _ (wide : ℕ → Bool) (w : ℕ → ℤ) where
   keeps_thin None (Some p) m h k = absurd k
   keeps_thin (Some b) None m h k = absurd k
   keeps_thin (Some b) (Some p) m h k = rw h k
+
+  -- the place that a scan kept at its end
+  pub kept_place : (best : Option Best) (o : Option ℕ) → Keeps w best o → option_map (λ b. b.place) best ≡ o
+  kept_place None None k = refl
+  kept_place None (Some p) k = absurd k
+  kept_place (Some b) None k = absurd k
+  kept_place (Some b) (Some p) k = ap Some k.0

@@ -1,32 +1,25 @@
 //! Marks: which entries of a system are fixed, and at which end. They make a box of it.
 ghost use Rattle.std.specs.Prelude.{◌≡◌, ◌^◌, ◌<◌, count_ones};
-ghost use Rattle.systems.specs.Boxes.{bit, box_of};
+ghost use Rattle.systems.specs.Boxes.{box_of};
 ghost use Rattle.systems.specs.Tables.{table_of};
 ghost use Rattle.partition.specs.Boxing.{unmarked};
 ghost use Rattle.partition.specs.Marking.{marks_of, open_at, fixed_at};
 
+use systems::marks::has_mark;
 use systems::system::System;
 
 /// One of the two ends of an entry.
-#[derive(Clone, Copy)]
+#[derive(Clone, Copy, PartialEq, Eq, Debug)]
 pub enum End {
     Low,
     High,
 }
 
 /// One bit for each place in each of two numbers: whether the entry is fixed, and whether at its high end.
-#[derive(Clone, Copy)]
+#[derive(Clone, Copy, PartialEq, Eq, Debug)]
 pub struct Marks {
     fixed: u64,
     ends: u64,
-}
-
-// Whether the bit of a place is 1.
-fn has_bit(number: u64, place: usize) -> bool
-    requires { place < 64 }
-    ensures { result ≡ bit number place }
-{
-    (number >> place) % 2 == 1
 }
 
 // The number whose only bit is that of a place.
@@ -46,10 +39,11 @@ impl Marks {
     }
 
     // Whether a place is one of the 64 and has no bit in either number.
+    #[tactic(auto, unfolding(crate::specs::Marking::open_at))]
     fn is_open(self, place: usize) -> bool
         ensures { result ≡ open_at (marks_of self) place }
     {
-        place < 64 && !has_bit(self.fixed, place) && !has_bit(self.ends, place)
+        place < 64 && !has_mark(self.fixed, place) && !has_mark(self.ends, place)
     }
 
     /// The marks with the entry at a place fixed at an end. They stay as they are where the place has a mark already, or is none of

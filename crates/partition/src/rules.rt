@@ -1,7 +1,7 @@
 //! The two built rules: the widest entry, and the entry whose width weighs most.
-ghost use Rattle.std.specs.Prelude.{◌≡◌, ℕ, ◌^◌, ◌<◌, ◌≤◌, List, map, ℤ, pos, ◌*ℤ◌, ◌≤ℤ◌, unsigned_abs};
+ghost use Rattle.std.specs.Prelude.{◌≡◌, ℕ, ◌^◌, ◌<◌, ◌≤◌, List, map, ℤ, pos, ◌≤ℤ◌, unsigned_abs};
 ghost use Rattle.algebra.specs.Ends.{Ends};
-ghost use Rattle.grains.specs.Arithmetic.{Figure, ends_of};
+ghost use Rattle.grains.specs.Arithmetic.{ends_of};
 ghost use Rattle.systems.specs.Entries.{ends_of as entry_ends};
 ghost use Rattle.systems.specs.Tables.{Table, table_of, ends_at, places_of};
 ghost use Rattle.enclosures.specs.RowSums.{magnitude};
@@ -15,6 +15,7 @@ use systems::entry::Entry;
 use systems::system::System;
 
 // How far the ends of an entry are apart.
+#[tactic(auto, unfolding(crate::specs::Choosing::width))]
 fn width_of(entry: Entry) -> i64
     ensures value { result ≡ width (entry_ends entry) }
     ensures low { pos 0 ≤ℤ result }
@@ -41,20 +42,10 @@ fn leverage_of(size: usize, row: &[Interval], place: usize) -> i64
     if column >= size {
         return GRAINS;
     }
-    if column < row.len() {
-        magnitude_of(row[column])
-    } else {
-        0
+    match row.get(column) {
+        Some(interval) => magnitude_of(*interval),
+        None => 0,
     }
-}
-
-// The product of two figures: it fits, since both are in the span.
-fn times(a: i64, b: i64) -> i64
-    requires first { Figure a }
-    requires second { Figure b }
-    ensures { result ≡ a *ℤ b }
-{
-    a * b
 }
 
 // A way to weigh the entries of a system.
@@ -77,14 +68,8 @@ fn heavier(best: Option<Best>, place: usize, weight: i64) -> Option<Best>
     ensures { result ≡ heavier_of best place weight }
 {
     match best {
-        Some(so_far) => {
-            if so_far.weight < weight {
-                Some(Best { place, weight })
-            } else {
-                Some(so_far)
-            }
-        }
-        None => Some(Best { place, weight }),
+        Some(so_far) if weight <= so_far.weight => best,
+        _ => Some(Best { place, weight }),
     }
 }
 
@@ -93,15 +78,12 @@ fn scan<W: Weigh>(weigher: &W, system: &System, row: &[Interval]) -> Option<usiz
     ensures { result ≡ best_below (wide_at (table_of system.now)) (W.Weigh.weight weigher.now (table_of system.now) (map ends_of row.now)) (places_of (table_of system.now).size) }
 {
     let mut best = None;
-    for place in 0..system.places() {
-        if system.entry_or_zero(place).is_wide() {
+    for (place, entry) in system.entries().iter().enumerate() {
+        if entry.is_wide() {
             best = heavier(best, place, weigher.weigh(system, row, place));
         }
     }
-    match best {
-        Some(found) => Some(found.place),
-        None => None,
-    }
+    best.map(|found| found.place)
 }
 
 /// The entry of the greatest width; among equals the one at the lowest place.
@@ -125,6 +107,7 @@ impl Rule for Widest {
 
     ghost place = { unfold widest_of in λ r t row k e. place_below (width_at t row) t k e };
 
+    #[tactic(auto, unfolding(crate::specs::Choosing::widest_of))]
     fn choose(&self, system: &System, row: &[Interval]) -> Option<usize> {
         scan(self, system, row)
     }
@@ -139,10 +122,7 @@ impl Weigh for Heaviest {
     ghost weight = { λ _. weight_at };
 
     fn weigh(&self, system: &System, row: &[Interval], place: usize) -> i64 {
-        times(
-            width_of(system.entry_or_zero(place)),
-            leverage_of(system.size(), row, place),
-        )
+        width_of(system.entry_or_zero(place)) * leverage_of(system.size(), row, place)
     }
 }
 
@@ -155,6 +135,7 @@ impl Rule for Heaviest {
 
     ghost place = { unfold heaviest_of in λ r t row k e. place_below (weight_at t row) t k e };
 
+    #[tactic(auto, unfolding(crate::specs::Choosing::heaviest_of))]
     fn choose(&self, system: &System, row: &[Interval]) -> Option<usize> {
         scan(self, system, row)
     }

@@ -2,52 +2,48 @@
 #![tactic(auto)]
 
 use jobs::writer::write;
-use std::io;
+use std::{fmt, io};
 use systems::draft::Draft;
 use systems::refusal::Refusal;
+use systems::system::System;
 
 /// Room for the longest job.
 const ROOM: usize = 467;
 
-// The draft of this size with these entries, place by place.
-fn filled(size: usize, entries: &[(i32, i32)]) -> Result<Draft, Refusal> {
-    let mut draft = Draft::new();
-    draft.renew(size)?;
-    for (place, ends) in entries.iter().enumerate() {
-        draft.set(place, ends.0, ends.1)?;
-    }
-    Ok(draft)
+/// A system under the name of its job: its size, and the ends of its entries, place by place.
+#[derive(Clone, Copy)]
+struct Sample {
+    name: &'static str,
+    size: usize,
+    entries: &'static [(i32, i32)],
 }
 
-// Prints a name and the job of a system, or the number of the refusal.
-fn show(rt: &impl Print, name: &str, size: usize, entries: &[(i32, i32)]) -> io::Result<()> {
-    let mut buffer = [0u8; ROOM];
-    let answer = match filled(size, entries) {
-        Ok(draft) => write(&draft.close(), &mut buffer),
-        Err(refusal) => Err(refusal),
-    };
-    print!(rt; "{name} ")?;
-    match answer {
-        Ok(len) => {
-            for byte in &buffer[0..len] {
-                print!(rt; "{byte:02x}")?;
-            }
-        }
-        Err(refusal) => {
-            let number = refusal.number();
-            print!(rt; "refused {number}")?;
-        }
-    }
-    println!(rt)
-}
-
-// Three taps of a voltage divider, by current balance at each tap.
-fn divider(rt: &impl Print) -> io::Result<()> {
-    show(
-        rt,
-        "divider.job",
-        3,
-        &[
+// The last is three taps of a voltage divider, by current balance at each tap.
+const SAMPLES: [Sample; 5] = [
+    Sample {
+        name: "worked.job",
+        size: 1,
+        entries: &[(2, 4), (1, 3)],
+    },
+    Sample {
+        name: "coupled.job",
+        size: 2,
+        entries: &[(1, 1), (362, 362), (1, 1), (362, 362), (1, 1), (0, 0)],
+    },
+    Sample {
+        name: "demo.job",
+        size: 2,
+        entries: &[(2, 4), (-2, 1), (-2, 2), (-1, 2), (2, 4), (-2, 2)],
+    },
+    Sample {
+        name: "dominant.job",
+        size: 2,
+        entries: &[(4, 4), (1, 1), (5, 5), (1, 1), (4, 4), (5, 5)],
+    },
+    Sample {
+        name: "divider.job",
+        size: 3,
+        entries: &[
             (199, 224),
             (-106, -95),
             (0, 0),
@@ -61,28 +57,44 @@ fn divider(rt: &impl Print) -> io::Result<()> {
             (104, 118),
             (0, 0),
         ],
-    )
+    },
+];
+
+impl Sample {
+    fn system(&self) -> Result<System, Refusal> {
+        let mut draft = Draft::new();
+        draft.renew(self.size)?;
+        for (place, &(low, high)) in self.entries.iter().enumerate() {
+            draft.set(place, low, high)?;
+        }
+        Ok(draft.close())
+    }
+
+    // Writes the job into the buffer, and answers the bytes that it takes.
+    fn job<'a>(&self, buffer: &'a mut [u8; ROOM]) -> Result<&'a [u8], Refusal> {
+        let len = write(&self.system()?, buffer)?;
+        Ok(&buffer[..len])
+    }
+}
+
+impl fmt::Display for Sample {
+    fn fmt<W: fmt::Write>(&self, f: &mut fmt::Formatter<W>) -> fmt::Result {
+        write!(f, "{} ", self.name)?;
+        match self.job(&mut [0; ROOM]) {
+            Ok(job) => {
+                for byte in job {
+                    write!(f, "{byte:02x}")?;
+                }
+                Ok(())
+            }
+            Err(refusal) => write!(f, "{refusal}"),
+        }
+    }
 }
 
 fn main(rt: HostRuntime) -> io::Result<()> {
-    show(&rt, "worked.job", 1, &[(2, 4), (1, 3)])?;
-    show(
-        &rt,
-        "coupled.job",
-        2,
-        &[(1, 1), (362, 362), (1, 1), (362, 362), (1, 1), (0, 0)],
-    )?;
-    show(
-        &rt,
-        "demo.job",
-        2,
-        &[(2, 4), (-2, 1), (-2, 2), (-1, 2), (2, 4), (-2, 2)],
-    )?;
-    show(
-        &rt,
-        "dominant.job",
-        2,
-        &[(4, 4), (1, 1), (5, 5), (1, 1), (4, 4), (5, 5)],
-    )?;
-    divider(&rt)
+    for sample in &SAMPLES {
+        println!(rt; "{sample}")?;
+    }
+    Ok(())
 }

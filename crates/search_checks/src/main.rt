@@ -1,12 +1,13 @@
 //! Checks random searches against the exact solutions of all corner systems.
 #![tactic(auto)]
 
-use std::io;
+use crate::failure::Failure;
 
-mod exact;
-mod random;
+mod corners;
+mod drawing;
+mod failure;
 mod searching;
 
-fn main(rt: HostRuntime) -> io::Result<()> {
+fn main(rt: HostRuntime) -> Result<(), Failure> {
     searching::check_all(&rt)
 }

@@ -1,5 +1,5 @@
 pub mod Leading
 pub mod Rows
-pub mod Calls
+pub mod Fixing
 pub mod Running
 pub mod Using

@@ -1,11 +1,13 @@
 -- What the places of a row hold after a method has enclosed a system. Assumes nothing.
-use Rattle.std.proofs.Common.{◌≡◌, ℕ, zero, suc, ◌+◌, ◌<◌, ◌≤◌, List, [], ◌∷◌, ◌++◌, map, length, get_or, take, drop, replicate, pos, Ok, Err, sym, refl, ap, ◌∙◌, arith, get_or-drop}
-use lib.ListN.{length-map}
-use Rattle.std.proofs.lemmas.List.{take-map, take_at, get_or-map, get_or_past}
+use Rattle.std.proofs.Common.{◌≡◌, ℕ, zero, suc, ◌+◌, List, [], ◌∷◌, ◌++◌, map, length, get_or, take, drop, replicate, pos, Some, None, Ok, Err, Option, sym, refl, ap, ◌∙◌, arith, get_or-drop}
+use Rattle.std.proofs.Math.ListN.{get_or-map}
+use Rattle.std.specs.Option.{ok_or}
+use Rattle.std.proofs.lemmas.List.{take-map, take_at}
 use Rattle.algebra.specs.Ends.{Ends, from_to}
 use Rattle.grains.specs.Arithmetic.{ends_of}
 use Rattle.grains.specs.declared.interval.Interval.{Interval}
 use Rattle.enclosures.specs.Verdicts.{Verdict, Encloses}
+use Rattle.outcomes.specs.declared.refusal.SearchRefusal.TheVariants.{Settled}
 use Rattle.outcomes.specs.Searching.{figures_of, place_in, place_by}
 use Rattle.partition.specs.Choosing.{Choice}
 use Rattle.systems.specs.Tables.{Table}
@@ -29,11 +31,14 @@ component_read (Ok row) x is c e met =
     ap Ok (ap (λ xs. get_or xs c (from_to (pos 0) (pos 0))) met.1 ∙ padded row (drop (length row) was) (from_to (pos 0) (pos 0)) rest c)
 component_read (Err f) x is c e met = absurd (let same = met.0 in let z : ◌≡◌ {A = ℕ} 0 1 = cc in omega arith)
 
-pub component_there : (o : Verdict) (x y : Interval) (is : List Interval) (c : ℕ) → ends_of x ≡ from_to (pos 0) (pos 0) → Encloses (Ok tt) (replicate 6 x) is o → c < length is → y ≡ get_or is c y → Ok (ends_of y) ≡ figures_of c o
-component_there o x y is c e met l here = ap Ok (ap ends_of here ∙ sym (get_or-map ends_of is c y (from_to (pos 0) (pos 0)) l)) ∙ component_read o x is c e met
+-- the same, where what stands past the places is zero too
+pub component_found : (o : Verdict) (x y z : Interval) (is : List Interval) (c : ℕ) → ends_of x ≡ from_to (pos 0) (pos 0) → ends_of z ≡ from_to (pos 0) (pos 0) → Encloses (Ok tt) (replicate 6 x) is o → y ≡ get_or is c z → Ok (ends_of y) ≡ figures_of c o
+component_found o x y z is c e e' met here = ap Ok (ap ends_of here ∙ sym (get_or-map ends_of is c z) ∙ ap (get_or (map ends_of is) c) e') ∙ component_read o x is c e met
 
-pub component_missing : (o : Verdict) (x y : Interval) (is : List Interval) (c : ℕ) → ends_of x ≡ from_to (pos 0) (pos 0) → ends_of y ≡ from_to (pos 0) (pos 0) → Encloses (Ok tt) (replicate 6 x) is o → length is ≤ c → Ok (ends_of y) ≡ figures_of c o
-component_missing o x y is c e e' met l = ap Ok (e' ∙ sym (get_or_past (map ends_of is) c (from_to (pos 0) (pos 0)) (simp length-map l))) ∙ component_read o x is c e met
+-- a place that is answered, and none
+pub placed : (o : Option ℕ) → ok_or o Settled ≡ place_in o
+placed (Some k) = refl
+placed None = refl
 
 -- the first places of a row, one for each component, are the row
 pub place_read : (r : Choice) (b : Table) (o : Verdict) (was is : List Interval) (n : ℕ) → ((row : List Ends) → o ≡ Ok row → length row ≡ n) → Encloses (Ok tt) was is o → place_in (r b (map ends_of (take n is))) ≡ place_by r b o

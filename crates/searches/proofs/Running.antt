@@ -7,7 +7,7 @@ use Rattle.outcomes.specs.declared.refusal.SearchRefusal.{SearchRefusal}
 use Rattle.outcomes.specs.Searching.{Started, split_of, after, run_of}
 use Rattle.searches.specs.declared.search.Progress.{Progress}
 use Rattle.searches.specs.declared.search.Search.{Search}
-use Rattle.searches.specs.States.{items_of, started_from, state_from, state_of, tried, SameParts}
+use Rattle.searches.specs.States.{started_from, state_from, state_of, tried, SameParts}
 use Rattle.outcomes.proofs.Runs.{run_on, run_ends, run_none}
 
 -- a run's outcome with more splits made before it
@@ -57,5 +57,5 @@ module _ {M R : Type 0} where
 
   -- what one split comes to there, over the parts as they were
   pub tried_there : (meaning : M → Table → Verdict) (answer : R → Choice) (was now : Search M R) (p : Progress) → SameParts was now → now.progress ≡ Some p
-      → tried (meaning now.method) (answer now.rule) (table_of now.system) (state_of now) ≡ split_of (meaning was.method) (answer was.rule) (table_of was.system) (started_from p (items_of now.waiting))
-  tried_there meaning answer was now p same e = (λ i. tried (meaning (same.method i)) (answer (same.rule i)) (table_of (same.system i)) (state_from (e i) (items_of now.waiting)))
+      → tried (meaning now.method) (answer now.rule) (table_of now.system) (state_of now) ≡ split_of (meaning was.method) (answer was.rule) (table_of was.system) (started_from p now.waiting)
+  tried_there meaning answer was now p same e = (λ i. tried (meaning (same.method i)) (answer (same.rule i)) (table_of (same.system i)) (state_from (e i) now.waiting))

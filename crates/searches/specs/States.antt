@@ -1,5 +1,5 @@
 -- A search of the code as a state, and what its calls answered.
-use Rattle.std.specs.Prelude.{◌≡◌, List, Some, None, Ok, Err, vec_items, Option, Result}
+use Rattle.std.specs.Prelude.{◌≡◌, List, Some, None, Ok, Err, Option, Result}
 use Rattle.algebra.specs.Ends.{Ends}
 use Rattle.grains.specs.Arithmetic.{ends_of}
 use Rattle.grains.specs.declared.interval.Interval.{Interval}
@@ -11,14 +11,10 @@ use Rattle.outcomes.specs.declared.reading.Report.{Report}
 use Rattle.outcomes.specs.declared.refusal.SearchRefusal.{SearchRefusal}
 use Rattle.outcomes.specs.declared.refusal.SearchRefusal.TheVariants.{NotStarted}
 use Rattle.outcomes.specs.declared.record.Record.{Record}
-use Rattle.searches.specs.declared.records.Records.{Records}
 use Rattle.searches.specs.declared.search.Halves.{Halves}
 use Rattle.searches.specs.declared.search.Progress.{Progress}
 use Rattle.searches.specs.declared.search.Search.{Search}
 use Rattle.outcomes.specs.Searching.{Started, State, replaced, split_of, Answer, refused, reading, report}
-
-abbrev pub items_of : Records → List Record
-items_of w = vec_items w.items
 
 abbrev pub started_from : Progress → List Record → Started
 started_from p ws = record { component = p.component; high = p.high; splits = p.splits; waiting = ws }
@@ -52,11 +48,11 @@ reported_by (Err e) = refused e
 
 module _ {M R : Type 0} where
   abbrev pub state_of : Search M R → State
-  state_of s = state_from s.progress (items_of s.waiting)
+  state_of s = state_from s.progress s.waiting
 
   -- a call that answered r and left the search was as is did what o says: at a state it is in that state, at a refusal it is as it was
   abbrev pub Advanced : Result Progress SearchRefusal → Search M R → Search M R → Result Started SearchRefusal → Type 0
-  Advanced (Ok p) was is o = (o ≡ Ok (started_from p (items_of is.waiting))) × (is.progress ≡ Some p)
+  Advanced (Ok p) was is o = (o ≡ Ok (started_from p is.waiting)) × (is.progress ≡ Some p)
   Advanced (Err e) was is o = (o ≡ Err e) × (is ≡ was)
 
   -- what no call changes

@@ -13,7 +13,7 @@ use std::alloc::{AllocError, Global};
 use systems::system::System;
 
 /// Why there is no figure.
-#[derive(Clone, Copy)]
+#[derive(Clone, Copy, PartialEq, Eq, Debug)]
 pub enum NoFigure {
     /// There is no memory for a search.
     Memory,
@@ -39,6 +39,7 @@ impl From<SearchRefusal> for NoFigure {
 
 /// A search for a component, counted from 1, that is started and run with a budget. The low figure of its reading is one that the
 /// component is never below: not in any rational solution of any point system inside the system.
+#[tactic(auto, unfolding(crate::specs::Lowest::solved_of))]
 pub fn solve<M: Enclosure + Drop, R: Rule + Drop>(
     heap: Global,
     system: System,
@@ -54,14 +55,11 @@ pub fn solve<M: Enclosure + Drop, R: Rule + Drop>(
     search.start(component)?;
     let report = search.run(budget)?;
     let reading = search.reading()?;
-    Ok(Report {
-        reading,
-        made: report.made,
-        stop: report.stop,
-    })
+    Ok(Report { reading, ..report })
 }
 
 /// The low figure of such a search, in grains.
+#[tactic(auto, unfolding(crate::specs::Lowest::lowest_of))]
 pub fn lowest<M: Enclosure + Drop, R: Rule + Drop>(
     heap: Global,
     system: System,
@@ -73,6 +71,5 @@ pub fn lowest<M: Enclosure + Drop, R: Rule + Drop>(
     ensures value { Answers result (lowest_of (M.Enclosure.meaning method) (R.Rule.answer rule) (table_of system) component budget) }
     ensures holds { Holds itself result (table_of system) component }
 {
-    let report = solve(heap, system, method, rule, component, budget)?;
-    Ok(report.reading.low)
+    solve(heap, system, method, rule, component, budget).map(|report| report.reading.low)
 }

@@ -26,6 +26,7 @@ pub fn system_of(job: &[u8]) -> Result<System, Refusal>
 }
 
 /// A search by elimination under one sweep, splitting the widest entry: started with a component, counted from 1, and run with a budget.
+#[tactic(auto, unfolding(crate::specs::Solving::found_for))]
 pub fn find(heap: Global, system: System, component: usize, budget: u32) -> Result<Report, NoFigure>
     ensures value { Answers result (found_for (table_of system) component budget) }
     ensures holds { Holds low_in result (table_of system) component }

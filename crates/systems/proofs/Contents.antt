@@ -1,15 +1,16 @@
 -- What a table of entries holds after a draft was made new, and after an entry was set. Assumes nothing.
-use Rattle.std.proofs.Common.{◌≡◌, ℕ, zero, suc, ◌+◌, ◌*◌, ◌<◌, ◌≤◌, List, [], ◌∷◌, map, length, get_or, take, set, replicate, ℤ, pos, Some, None, Ok, sym, refl, ap, ◌∙◌, arith, length-take}
+use Rattle.std.proofs.Common.{◌≡◌, ℕ, zero, suc, ◌+◌, ◌*◌, ◌<◌, ◌≤◌, List, [], ◌∷◌, map, length, get_or, take, set, replicate, ℤ, pos, Option, Some, None, Ok, sym, refl, ap, ◌∙◌, arith, length-take}
 use lib.ListN.{length-map}
 use lib.Seq.{map-set, take-set-lt}
 use Rattle.std.proofs.lemmas.Nat.{mul-le}
 use Rattle.std.proofs.lemmas.List.{take-replicate, get_or-map, get_or-take}
 use Rattle.std.proofs.lemmas.Option.{slice_get-get_or, slice_get_past}
 use Rattle.std.specs.List.{slice_get}
+use Rattle.std.specs.Option.{option_map, unwrap_or}
 use Rattle.algebra.specs.Ends.{Ends}
 use Rattle.systems.specs.declared.entry.Entry.{Entry}
 use Rattle.systems.specs.Entries.{ends_of, entry_of, thin}
-use Rattle.systems.specs.Tables.{Table, places_of, tabled, blank, entry_at, ends_at, sized, placed}
+use Rattle.systems.specs.Tables.{Table, places_of, tabled, blank, entry_at, ends_at, size_of, sized, placed}
 
 pub places_few : (n : ℕ) → n ≤ 6 → n * (n + 1) ≤ 42
 places_few n h = mul-le n (n + 1) 6 7 h (omega arith)
@@ -46,7 +47,7 @@ no_entry_tabled n xs p l h q =
     slice_get_past (take (places_of n) (map ends_of xs)) p (simp (length-take, length-map) (omega arith))
 
 pub accepted_size : (n : ℕ) → 1 ≤ n → n ≤ 6 → sized n ≡ Ok (blank n)
-unfolding sized
+unfolding sized size_of
 accepted_size n p q = grind arith
 
 -- an accepted setting at a place that there is
@@ -75,3 +76,13 @@ entry_missing t k found = missing t.entries k found
     missing [] i f = refl
     missing (y ∷ es) zero f = cc
     missing (y ∷ es) (suc i) f = missing es i f
+
+-- what an answer that may be missing stands for
+pub entry_or : (t : Table) (k : ℕ) (o : Option Entry) (z : Entry) → option_map ends_of o ≡ entry_at t k → ends_of z ≡ thin (pos 0) → ends_of (unwrap_or o z) ≡ ends_at t k
+entry_or t k (Some e) z found is = sym (entry_there t k (ends_of e) (sym found))
+entry_or t k None z found is = is ∙ sym (entry_missing t k (sym found))
+
+-- an entry that is read from the slice of the entries
+pub entry_held : (t : Table) (es : List Entry) (k : ℕ) (e : Entry) → map ends_of es ≡ t.entries → k < length es → e ≡ get_or es k e → ends_of e ≡ ends_at t k
+entry_held t es k e same below is =
+    ap ends_of is ∙ sym (get_or-map ends_of es k e (thin (pos 0)) below) ∙ ap (λ xs. get_or xs k (thin (pos 0))) same

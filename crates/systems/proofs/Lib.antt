@@ -1,3 +1,4 @@
 pub mod Contents
 pub mod Walks
 pub mod Tabled
+pub mod Bits

@@ -1,5 +1,5 @@
 -- The table of every system is proper. Assumes nothing.
-use Rattle.std.proofs.Common.{ℕ, zero, suc, List, [], ◌∷◌, map, get_or, take, pos, neg_ℤ, ◌≤ℤ◌, ◌∙◌, arith, length-take}
+use Rattle.std.proofs.Common.{◌≡◌, ℕ, zero, suc, List, [], ◌∷◌, map, get_or, take, pos, neg_ℤ, ◌≤ℤ◌, ◌∙◌, sym, ap, length, arith, length-take}
 use lib.ListN.{length-map}
 use borrow.Author.Differences.{ints}
 use Rattle.algebra.specs.Ends.{Ends, Ordered}
@@ -31,12 +31,17 @@ good_at (suc m) (x ∷ xs) (suc k) = good_at m xs k
 pub table_proper : (s : System) → Proper (table_of s)
 unfolding tabled
 table_proper s =
-    let few = places_few s.size s.few in
+    let held = s.draft in
+    let few = places_few held.size.rows held.size.few in
     record {
-      some = s.some;
-      few = s.few;
-      complete = length-take (places_of s.size) (map ends_of s.entries) ∙ simp length-map (omega (arith, s.full));
-      ordered = λ k. (good_at (places_of s.size) s.entries k).ordered;
-      above = λ k. (good_at (places_of s.size) s.entries k).above;
-      below = λ k. (good_at (places_of s.size) s.entries k).below;
+      some = held.size.some;
+      few = held.size.few;
+      complete = length-take (places_of held.size.rows) (map ends_of held.entries) ∙ simp length-map (omega (arith, held.full));
+      ordered = λ k. (good_at (places_of held.size.rows) held.entries k).ordered;
+      above = λ k. (good_at (places_of held.size.rows) held.entries k).above;
+      below = λ k. (good_at (places_of held.size.rows) held.entries k).below;
     }
+
+-- a slice of a system's entries has one for each place
+pub entries_long : (s : System) (es : List Entry) → map ends_of es ≡ (table_of s).entries → length es ≡ places_of (table_of s).size
+entries_long s es same = sym (length-map es ends_of) ∙ ap length same ∙ (table_proper s).complete

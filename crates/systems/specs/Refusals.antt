@@ -1,5 +1,5 @@
 -- The number of each refusal.
-use Rattle.std.specs.Prelude.{ℕ}
+use Rattle.std.specs.Prelude.{ℕ, List, ◌++◌, codes, decimal}
 use Rattle.systems.specs.declared.refusal.Refusal.{Refusal}
 use Rattle.systems.specs.declared.refusal.Refusal.TheVariants.{SizeOutOfRange, PlaceOutOfRange, EndOutOfRange, EndsOutOfOrder, JobEndsEarly, MarkNotAllowed, PlaceNotRising, EntryIsZero, BytesAfterEnd, BufferTooShort}
 
@@ -14,3 +14,7 @@ number_of PlaceNotRising = 11
 number_of EntryIsZero = 12
 number_of BytesAfterEnd = 13
 number_of BufferTooShort = 14
+
+-- a refusal as text: the word and the number
+abbrev pub refused_text : ℕ → List ℕ
+refused_text n = codes "refused " ++ decimal n

@@ -23,18 +23,22 @@ unfoldable pub tabled : ℕ → List Entry → Table
 tabled n xs = record { size = n; entries = take (places_of n) (map ends_of xs) }
 
 abbrev pub drafted : Draft → Table
-drafted d = tabled d.size d.entries
+drafted d = tabled d.size.rows d.entries
 
 abbrev pub table_of : System → Table
-table_of s = tabled s.size s.entries
+table_of s = drafted s.draft
 
 -- size n, every entry [0, 0]
 unfoldable pub blank : ℕ → Table
 blank n = record { size = n; entries = replicate (places_of n) (thin (pos 0)) }
 
+-- n, if it is a size
+unfoldable pub size_of : ℕ → Result ℕ Refusal
+size_of n = cond (nat_le 1 n && nat_le n 6) (Ok n) (Err SizeOutOfRange)
+
 -- a new table at size n
 unfoldable pub sized : ℕ → Result Table Refusal
-sized n = cond (nat_le 1 n && nat_le n 6) (Ok (blank n)) (Err SizeOutOfRange)
+sized n = and_then (size_of n) (λ m. Ok (blank m))
 
 -- the table with the entry from a to b at a place: first the place is looked at, then the ends
 unfoldable pub placed : ℕ → ℤ → ℤ → Table → Result Table Refusal

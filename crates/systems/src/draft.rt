@@ -1,7 +1,8 @@
 //! Drafts: systems that are still being filled in.
-ghost use Rattle.std.specs.Prelude.{◌≡◌, ◌≤◌, length};
+ghost use Rattle.std.specs.Prelude.{◌≡◌, length};
 
 use crate::entry::Entry;
+use crate::size::Size;
 
 mod methods;
 
@@ -14,9 +15,8 @@ pub const MOST_PLACES: usize = 42;
 /// A system in the making. Places count from 0, row by row; each row has its matrix entries, then its right-hand entry.
 #[derive(Clone, Copy)]
 pub struct Draft {
-    size: usize,
-    entries: [Entry; MOST_PLACES],
-    ghost some: { 1 ≤ size },
-    ghost few: { size ≤ 6 },
+    pub(crate) size: Size,
+    // Fixed memory, with room for the largest system: nothing allocates, so nothing here can fail for want of memory.
+    pub(crate) entries: [Entry; MOST_PLACES],
     ghost full: { length entries ≡ 42 },
 }

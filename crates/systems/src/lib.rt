@@ -3,5 +3,7 @@
 
 pub mod draft;
 pub mod entry;
+pub mod marks;
 pub mod refusal;
+mod size;
 pub mod system;

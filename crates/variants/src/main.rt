@@ -1,8 +1,12 @@
 //! Runs the reader on a job, on each beginning of it and on each job that differs from it in one byte, and prints how often it gave each answer.
 #![tactic(auto)]
 
+ghost use Rattle.std.specs.Prelude.{◌<◌};
+
 use jobs::reader::read;
-use std::io;
+use std::alloc::{AllocError, Global};
+use std::collections::BTreeMap;
+use std::{fmt, io};
 use systems::draft::Draft;
 
 const JOB: [u8; 27] = [
@@ -10,17 +14,17 @@ const JOB: [u8; 27] = [
     0x01, 0x00, 0x00, 0x00, 0x01, 0x00, 0x00, 0x00, 0x03, 0x5a, 0x5a,
 ];
 
-// How often each number was answered, 0 standing for a job that was read, and a digest of all answers in their order.
-#[derive(Clone, Copy)]
+/// How often each number was answered, 0 standing for a job that was read, and a digest of all answers in their order.
+#[derive(Drop)]
 struct Tally {
-    answers: [u32; 15],
+    answers: BTreeMap<u32, u32>,
     digest: u64,
 }
 
 impl Tally {
-    fn new() -> Tally {
+    fn new(heap: Global) -> Tally {
         Tally {
-            answers: [0; 15],
+            answers: BTreeMap::new(heap),
             digest: 0,
         }
     }
@@ -29,65 +33,67 @@ impl Tally {
         self.digest = self.digest.wrapping_mul(1000003).wrapping_add(value);
     }
 
+    fn count(&mut self, number: u32) -> Result<(), AllocError> {
+        let before = self.answers.get(&number).copied().unwrap_or(0);
+        self.answers.insert(number, before.saturating_add(1))?;
+        Ok(())
+    }
+
     // Adds the reader's answer to a job: its number, or the size and the entries that it read.
-    fn add(&mut self, job: &[u8]) {
+    fn add(&mut self, job: &[u8]) -> Result<(), AllocError> {
         let mut draft = Draft::new();
         let number = match read(job, &mut draft) {
             Ok(()) => 0,
             Err(refusal) => refusal.number(),
         };
-        let index = number as usize % 15;
-        self.answers[index] = self.answers[index].saturating_add(1);
+        self.count(number)?;
         self.mix(u64::from(number));
         let system = draft.close();
         self.mix(system.size() as u64);
-        for place in 0..system.places() {
-            if let Some(entry) = system.entry(place) {
-                self.mix(u64::from(entry.low().cast_unsigned()));
-                self.mix(u64::from(entry.high().cast_unsigned()));
-            }
+        for entry in system.entries() {
+            self.mix(u64::from(entry.low().cast_unsigned()));
+            self.mix(u64::from(entry.high().cast_unsigned()));
         }
-    }
-
-    fn show(&self, rt: &impl Print) -> io::Result<()> {
-        for number in 0..15usize {
-            let count = self.answers[number];
-            if count > 0 {
-                print!(rt; " {number}:{count}")?;
-            }
-        }
-        let digest = self.digest;
-        println!(rt; " digest {digest}")
+        Ok(())
     }
 }
 
-fn beginnings(rt: &impl Print) -> io::Result<()> {
-    let mut tally = Tally::new();
-    for len in 0..28usize {
-        tally.add(&JOB[0..len]);
+impl fmt::Display for Tally {
+    fn fmt<W: fmt::Write>(&self, f: &mut fmt::Formatter<W>) -> fmt::Result {
+        for (number, count) in &self.answers {
+            write!(f, " {number}:{count}")?;
+        }
+        write!(f, " digest {}", self.digest)
     }
-    print!(rt; "beginnings")?;
-    tally.show(rt)
 }
 
-fn changes(rt: &impl Print, at: usize) -> io::Result<()> {
-    if at >= 27 {
-        return Ok(());
+// The job's beginnings, from none of its bytes to all of them.
+fn beginnings(heap: Global) -> Result<Tally, AllocError> {
+    let mut tally = Tally::new(heap);
+    for len in 0..=JOB.len() {
+        tally.add(&JOB[..len])?;
     }
-    let mut tally = Tally::new();
-    let mut job = JOB;
+    Ok(tally)
+}
+
+// The job with each byte in one place.
+fn changes(heap: Global, at: usize) -> Result<Tally, AllocError>
+    requires { at < 27 }
+{
+    let mut tally = Tally::new(heap);
     for byte in 0..=255u8 {
+        let mut job = JOB;
         job[at] = byte;
-        tally.add(&job);
+        tally.add(&job)?;
     }
-    print!(rt; "byte {at}")?;
-    tally.show(rt)
+    Ok(tally)
 }
 
 fn main(rt: HostRuntime) -> io::Result<()> {
-    beginnings(&rt)?;
-    for at in 0..27usize {
-        changes(&rt, at)?;
+    let heap = rt.alloc();
+    println!(rt; "beginnings{}", beginnings(heap)?)?;
+    for at in 0..JOB.len() {
+        println!(rt; "byte {at}{}", changes(heap, at)?)?;
     }
     Ok(())
 }

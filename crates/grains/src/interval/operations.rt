@@ -1,5 +1,5 @@
 //! The operations on intervals.
-ghost use Rattle.std.specs.Prelude.{◌≡◌, ◌^◌, ◌<◌, ◌≤◌, pos, ◌-ℤ◌, ◌≤ℤ◌, unsigned_abs};
+ghost use Rattle.std.specs.Prelude.{◌≡◌, slice_index_or, ◌^◌, ◌<◌, ◌≤◌, pos, ◌-ℤ◌, ◌≤ℤ◌, unsigned_abs};
 ghost use Rattle.algebra.specs.Ends.{from_to};
 ghost use Rattle.algebra.specs.Order.{floor_quot, ceil_quot};
 ghost use Rattle.std.specs.Option.{option_map};
@@ -8,6 +8,7 @@ ghost use Rattle.grains.specs.Arithmetic.{Figure, ends_of, answer_of, interval_o
 use crate::interval::{ArithmeticError, GRAINS, Interval, LIMIT};
 
 // `a / by`, rounded towards minus infinity.
+#[tactic(auto, unfolding(algebra::specs::Order::floor_quot, algebra::specs::Order::floor_div))]
 fn floor_div(a: i64, by: i64) -> i64
     requires nonzero { 0 < unsigned_abs by }
     requires fits { unsigned_abs a < 2 ^ 63 }
@@ -23,6 +24,7 @@ fn floor_div(a: i64, by: i64) -> i64
 }
 
 // `a / by`, rounded towards plus infinity.
+#[tactic(auto, unfolding(algebra::specs::Order::ceil_quot))]
 fn ceil_div(a: i64, by: i64) -> i64
     requires nonzero { 0 < unsigned_abs by }
     requires fits { unsigned_abs a < 2 ^ 63 }
@@ -33,6 +35,7 @@ fn ceil_div(a: i64, by: i64) -> i64
 }
 
 // The interval from `low` to `high`, where both are in the span.
+#[tactic(auto, unfolding(crate::specs::Arithmetic::in_span))]
 fn in_span(low: i64, high: i64) -> Result<Interval, ArithmeticError>
     requires { low ≤ℤ high }
     ensures { answer_of result ≡ in_span low high }
@@ -42,14 +45,6 @@ fn in_span(low: i64, high: i64) -> Result<Interval, ArithmeticError>
     } else {
         Err(ArithmeticError::OutsideSpan)
     }
-}
-
-fn minus(a: i64, b: i64) -> i64
-    requires first { Figure a }
-    requires second { Figure b }
-    ensures { result ≡ a -ℤ b }
-{
-    a - b
 }
 
 // The product of two figures: it fits, since both are in the span.
@@ -62,84 +57,44 @@ fn multiply(a: i64, b: i64) -> i64
     a * b
 }
 
-fn least_of(a: i64, b: i64, c: i64, d: i64) -> i64
-    ensures { result ≡ least_of a b c d }
+#[tactic(auto, unfolding(crate::specs::Arithmetic::least_of))]
+fn least_of(values: [i64; 4]) -> i64
+    ensures { result ≡ least_of (slice_index_or values 0 (pos 0)) (slice_index_or values 1 (pos 0)) (slice_index_or values 2 (pos 0)) (slice_index_or values 3 (pos 0)) }
 {
+    let [a, b, c, d] = values;
     a.min(b).min(c.min(d))
 }
 
-fn greatest_of(a: i64, b: i64, c: i64, d: i64) -> i64
-    ensures { result ≡ greatest_of a b c d }
+#[tactic(auto, unfolding(crate::specs::Arithmetic::greatest_of))]
+fn greatest_of(values: [i64; 4]) -> i64
+    ensures { result ≡ greatest_of (slice_index_or values 0 (pos 0)) (slice_index_or values 1 (pos 0)) (slice_index_or values 2 (pos 0)) (slice_index_or values 3 (pos 0)) }
 {
+    let [a, b, c, d] = values;
     a.max(b).max(c.max(d))
 }
 
-fn least_product(x: Interval, y: Interval) -> i64
-    ensures { result ≡ least_product (ends_of x) (ends_of y) }
+// What an operation makes of each end of an interval and each end of another.
+fn corners<F: Fn(i64, i64) -> i64>(x: Interval, y: Interval, of: F) -> [i64; 4]
+    requires low_low { F.pre of x.low y.low }
+    requires low_high { F.pre of x.low y.high }
+    requires high_low { F.pre of x.high y.low }
+    requires high_high { F.pre of x.high y.high }
+    ensures low_low { F.post of x.low y.low (slice_index_or result 0 (pos 0)) }
+    ensures low_high { F.post of x.low y.high (slice_index_or result 1 (pos 0)) }
+    ensures high_low { F.post of x.high y.low (slice_index_or result 2 (pos 0)) }
+    ensures high_high { F.post of x.high y.high (slice_index_or result 3 (pos 0)) }
 {
-    let a = multiply(x.low, y.low);
-    let b = multiply(x.low, y.high);
-    let c = multiply(x.high, y.low);
-    let d = multiply(x.high, y.high);
-    least_of(a, b, c, d)
-}
-
-fn greatest_product(x: Interval, y: Interval) -> i64
-    ensures { result ≡ greatest_product (ends_of x) (ends_of y) }
-{
-    let a = multiply(x.low, y.low);
-    let b = multiply(x.low, y.high);
-    let c = multiply(x.high, y.low);
-    let d = multiply(x.high, y.high);
-    greatest_of(a, b, c, d)
-}
-
-// `a * GRAINS / by`, rounded down to a whole grain.
-fn quotient_down(a: i64, by: i64) -> i64
-    requires figure { Figure a }
-    requires nonzero { 0 < unsigned_abs by }
-    requires by_figure { Figure by }
-    ensures { result ≡ quotient_down a by }
-{
-    floor_div(multiply(a, GRAINS), by)
-}
-
-// `a * GRAINS / by`, rounded up to a whole grain.
-fn quotient_up(a: i64, by: i64) -> i64
-    requires figure { Figure a }
-    requires nonzero { 0 < unsigned_abs by }
-    requires by_figure { Figure by }
-    ensures { result ≡ quotient_up a by }
-{
-    ceil_div(multiply(a, GRAINS), by)
-}
-
-fn least_quotient(x: Interval, y: Interval) -> i64
-    requires low { 0 < unsigned_abs y.low }
-    requires high { 0 < unsigned_abs y.high }
-    ensures { result ≡ least_quotient (ends_of x) (ends_of y) }
-{
-    let a = quotient_down(x.low, y.low);
-    let b = quotient_down(x.low, y.high);
-    let c = quotient_down(x.high, y.low);
-    let d = quotient_down(x.high, y.high);
-    least_of(a, b, c, d)
-}
-
-fn greatest_quotient(x: Interval, y: Interval) -> i64
-    requires low { 0 < unsigned_abs y.low }
-    requires high { 0 < unsigned_abs y.high }
-    ensures { result ≡ greatest_quotient (ends_of x) (ends_of y) }
-{
-    let a = quotient_up(x.low, y.low);
-    let b = quotient_up(x.low, y.high);
-    let c = quotient_up(x.high, y.low);
-    let d = quotient_up(x.high, y.high);
-    greatest_of(a, b, c, d)
+    [
+        of(x.low, y.low),
+        of(x.low, y.high),
+        of(x.high, y.low),
+        of(x.high, y.high),
+    ]
 }
 
 impl Interval {
     /// The interval from `low` to `high`, or none where they are out of order or outside the span.
+    #[tactic(auto, unfolding(crate::specs::Arithmetic::interval_of))]
     pub fn new(low: i64, high: i64) -> Option<Interval>
         ensures { option_map ends_of result ≡ interval_of low high }
     {
@@ -172,6 +127,7 @@ impl Interval {
     }
 
     /// Whether 0 lies in the interval, ends included.
+    #[tactic(auto, unfolding(crate::specs::Arithmetic::contains_zero))]
     pub fn contains_zero(self) -> bool
         ensures { result ≡ contains_zero (ends_of self) }
     {
@@ -179,11 +135,12 @@ impl Interval {
     }
 
     /// From low minus high to high minus low. [1, 3] - [2, 4] is [-3, 1].
+    #[tactic(auto, unfolding(crate::specs::Arithmetic::difference_of))]
     pub fn difference(self, other: Interval) -> Result<Interval, ArithmeticError>
         ensures { answer_of result ≡ difference_of (ends_of self) (ends_of other) }
     {
-        let low = minus(self.low, other.high);
-        let high = minus(self.high, other.low);
+        let low = self.low - other.high;
+        let high = self.high - other.low;
         in_span(low, high)
     }
 
@@ -191,24 +148,27 @@ impl Interval {
     pub fn product(self, other: Interval) -> Result<Interval, ArithmeticError>
         ensures { answer_of result ≡ product_of (ends_of self) (ends_of other) }
     {
-        let least = least_product(self, other);
-        let greatest = greatest_product(self, other);
+        let products = corners(self, other, |a, b| multiply(a, b));
+        let least = least_of(products);
+        let greatest = greatest_of(products);
         in_span(floor_div(least, GRAINS), ceil_div(greatest, GRAINS))
     }
 
     /// From the least of the four quotients of ends, rounded down, to the greatest, rounded up. 1 / 3 is from 5461 to 5462 grains.
+    #[tactic(auto, unfolding(crate::specs::Arithmetic::quotient_of))]
     pub fn quotient(self, divisor: Interval) -> Result<Interval, ArithmeticError>
         ensures { answer_of result ≡ quotient_of (ends_of self) (ends_of divisor) }
     {
         if divisor.contains_zero() {
             return Err(ArithmeticError::DivisorContainsZero);
         }
-        let low = least_quotient(self, divisor);
-        let high = greatest_quotient(self, divisor);
+        let low = least_of(corners(self, divisor, |a, by| floor_div(multiply(a, GRAINS), by)));
+        let high = greatest_of(corners(self, divisor, |a, by| ceil_div(multiply(a, GRAINS), by)));
         in_span(low, high)
     }
 
     /// The figures that lie in both intervals, or none.
+    #[tactic(auto, unfolding(crate::specs::Arithmetic::common_of))]
     pub fn common(self, other: Interval) -> Option<Interval>
         ensures { option_map ends_of result ≡ common_of (ends_of self) (ends_of other) }
     {
@@ -219,5 +179,14 @@ impl Interval {
         } else {
             None
         }
+    }
+}
+
+/// [0, 0].
+impl Default for Interval {
+    ghost is_default = { λ x. ends_of x ≡ from_to (pos 0) (pos 0) };
+
+    fn default() -> Interval {
+        Interval::zero()
     }
 }

@@ -1,9 +1,11 @@
 //! The calls of a search.
-use crate::random::Random;
+ghost use Rattle.std.specs.Prelude.{◌≤◌};
+
+use trials::random::Random;
 
 /// A call, with its component, counted from 1, or its budget.
-#[derive(Clone, Copy)]
-pub enum Call {
+#[derive(Clone, Copy, PartialEq, Eq, Debug)]
+pub(crate) enum Call {
     Start(usize),
     Split,
     Run(u32),
@@ -14,15 +16,18 @@ pub enum Call {
 const START_TURN: u32 = 3;
 
 // A start, also with a component that is not there.
-fn any_start(random: &mut Random, size: usize) -> Call {
-    let most = size.saturating_add(1).min(7) as u32;
-    Call::Start(random.up_to(most) as usize)
+fn any_start(random: &mut Random, size: usize) -> Call
+    requires { size ≤ 6 }
+{
+    Call::Start(random.up_to((size + 1) as u32) as usize)
 }
 
 // A start with a component that is there.
-fn good_start(random: &mut Random, size: usize) -> Call {
-    let most = size.saturating_sub(1).min(5) as u32;
-    Call::Start(1 + random.up_to(most) as usize)
+fn good_start(random: &mut Random, size: usize) -> Call
+    requires some { 1 ≤ size }
+    requires few { size ≤ 6 }
+{
+    Call::Start(1 + random.up_to((size - 1) as u32) as usize)
 }
 
 fn any_run(random: &mut Random) -> Call {
@@ -33,15 +38,18 @@ fn any_run(random: &mut Random) -> Call {
     }
 }
 
-/// A random call at a turn, counted from 0. At turn 3 it is a start with a component that is there.
-pub(crate) fn random_call(random: &mut Random, size: usize, turn: u32) -> Call {
+/// A random call at a turn, counted from 0, for a system of `size` rows. At turn 3 it is a start with a component that is there.
+pub(crate) fn random_call(random: &mut Random, size: usize, turn: u32) -> Call
+    requires some { 1 ≤ size }
+    requires few { size ≤ 6 }
+{
     if turn == START_TURN {
         return good_start(random, size);
     }
     match random.up_to(7) {
-        0 | 1 => any_start(random, size),
-        2 | 3 | 4 => Call::Split,
-        5 | 6 => any_run(random),
+        0..=1 => any_start(random, size),
+        2..=4 => Call::Split,
+        5..=6 => any_run(random),
         _ => Call::Read,
     }
 }

@@ -1,8 +1,8 @@
 //! What was found for one method and one rule.
-use std::io;
+use std::fmt;
 
-#[derive(Clone, Copy)]
-pub struct Tally {
+#[derive(Clone, Copy, Default)]
+pub(crate) struct Tally {
     pub started: u32,
     pub refused: u32,
     pub calls: u32,
@@ -13,26 +13,16 @@ pub struct Tally {
 }
 
 impl Tally {
-    pub(crate) fn new() -> Tally {
-        Tally {
-            started: 0,
-            refused: 0,
-            calls: 0,
-            splits: 0,
-            settled: 0,
-            corners: 0,
-            violations: 0,
-        }
-    }
-
     /// Counts a violation where a promise is not kept.
     pub(crate) fn expect(&mut self, kept: bool) {
         if !kept {
             self.violations = self.violations.saturating_add(1);
         }
     }
+}
 
-    pub(crate) fn show(&self, rt: &impl Print, method: &str, rule: &str) -> io::Result<()> {
+impl fmt::Display for Tally {
+    fn fmt<W: fmt::Write>(&self, f: &mut fmt::Formatter<W>) -> fmt::Result {
         let started = self.started;
         let refused = self.refused;
         let calls = self.calls;
@@ -40,8 +30,9 @@ impl Tally {
         let settled = self.settled;
         let corners = self.corners;
         let violations = self.violations;
-        println!(rt;
-            "{method}, {rule}: {started} started, {refused} refused, {calls} calls, {splits} splits, {settled} settled, {corners} corners checked, {violations} violations"
+        write!(
+            f,
+            "{started} started, {refused} refused, {calls} calls, {splits} splits, {settled} settled, {corners} corners checked, {violations} violations"
         )
     }
 }

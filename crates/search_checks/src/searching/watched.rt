@@ -1,19 +1,24 @@
 //! A search whose every answer is checked.
-use crate::exact::{Corner, corners, thin};
+use crate::corners::corners_of;
+use crate::failure::Failure;
 use crate::searching::calls::Call;
 use crate::searching::tally::Tally;
 use enclosures::enclosure::Enclosure;
+use enclosures::fault::Fault;
 use grains::interval::Interval;
 use outcomes::reading::{Reading, Report, Stop};
 use outcomes::refusal::SearchRefusal;
 use partition::rule::Rule;
 use searches::search::Search;
+use std::alloc::Global;
 use systems::system::System;
+use trials::corner::{Corner, Quotient};
 
 /// A search, with what the calls so far have shown of it.
 #[derive(Drop)]
-pub struct Watched<M, R> {
+pub(crate) struct Watched<M, R> {
     system: System,
+    corners: Vec<System>,
     method: M,
     search: Search<M, R>,
     // counted from 0
@@ -29,11 +34,12 @@ struct Answer {
     made: u32,
 }
 
-// The answer with so many splits, or the number of the refusal.
-fn answer_of(res: Result<Reading, SearchRefusal>, made: u32) -> Result<Answer, u32> {
-    match res {
-        Ok(reading) => Ok(Answer { reading, made }),
-        Err(refusal) => Err(refusal.number()),
+impl From<Report> for Answer {
+    fn from(report: Report) -> Answer {
+        Answer {
+            reading: report.reading,
+            made: report.made,
+        }
     }
 }
 
@@ -47,74 +53,87 @@ fn fits(report: Report, budget: u32) -> bool {
 }
 
 impl<M: Enclosure + Copy, R: Rule + Copy> Watched<M, R> {
-    /// A search over a system and by a method that is not started.
-    pub(crate) fn new(system: System, method: M, search: Search<M, R>) -> Watched<M, R> {
-        Watched {
+    /// A search over a system that is not started.
+    pub(crate) fn new(
+        heap: Global,
+        system: System,
+        method: M,
+        rule: R,
+    ) -> Result<Watched<M, R>, Failure> {
+        Ok(Watched {
             system,
+            corners: corners_of(heap, &system)?,
             method,
-            search,
+            search: Search::new(heap, system, method, rule)?,
             component: 0,
             splits: 0,
             last: None,
-        }
+        })
     }
 
-    // The number of the refusal that is due at a start.
-    fn due_at_start(&self, component: usize) -> Option<u32> {
+    // The method's row for a system.
+    fn row(&self, system: &System) -> Result<[Interval; 6], Fault> {
+        let mut row = [Interval::zero(); 6];
+        self.method.enclose(system, &mut row)?;
+        Ok(row)
+    }
+
+    // The method's interval for the component of a system.
+    fn interval_of(&self, system: &System) -> Option<Interval> {
+        let row = self.row(system).ok()?;
+        row.get(self.component).copied()
+    }
+
+    // The component of the exact solution at a corner.
+    fn exact_at(&self, corner: &System) -> Option<Quotient> {
+        Corner::at_low(*corner).component(self.component)
+    }
+
+    // The refusal that is due at a start, if one is.
+    fn due_at_start(&self, component: usize) -> Result<(), SearchRefusal> {
         if self.last.is_some() {
-            return Some(22);
+            return Err(SearchRefusal::AlreadyStarted);
         }
         if component < 1 || self.system.size() < component {
-            return Some(5);
+            return Err(SearchRefusal::ComponentOutOfRange);
         }
-        let mut row = [Interval::zero(); 6];
-        match self.method.enclose(&self.system, &mut row) {
-            Ok(()) => None,
-            Err(fault) => Some(fault.number),
-        }
+        self.row(&self.system)?;
+        Ok(())
     }
 
-    // The number of the refusal that is due at a call, or none where it is to be carried out.
-    fn due(&self, call: Call) -> Option<u32> {
+    // The refusal that is due at a call, if it is not to be carried out.
+    fn due(&self, call: Call) -> Result<(), SearchRefusal> {
         match (call, self.last) {
             (Call::Start(component), _) => self.due_at_start(component),
-            (_, None) => Some(21),
-            (Call::Split, Some(reading)) => { if reading.settled { Some(23) } else { None } }
-            (_, Some(_)) => None,
+            (_, None) => Err(SearchRefusal::NotStarted),
+            (Call::Split, Some(reading)) if reading.settled => Err(SearchRefusal::Settled),
+            (_, Some(_)) => Ok(()),
         }
     }
 
-    fn run(&mut self, budget: u32, tally: &mut Tally) -> Result<Answer, u32> {
-        match self.search.run(budget) {
-            Ok(report) => {
-                tally.expect(fits(report, budget));
-                Ok(Answer {
-                    reading: report.reading,
-                    made: report.made,
-                })
-            }
-            Err(refusal) => Err(refusal.number()),
-        }
+    fn run(&mut self, budget: u32, tally: &mut Tally) -> Result<Answer, SearchRefusal> {
+        let report = self.search.run(budget)?;
+        tally.expect(fits(report, budget));
+        Ok(Answer::from(report))
     }
 
-    fn carry_out(&mut self, call: Call, tally: &mut Tally) -> Result<Answer, u32> {
-        match call {
-            Call::Start(component) => answer_of(self.search.start(component), 0),
-            Call::Split => answer_of(self.search.split(), 1),
-            Call::Run(budget) => self.run(budget, tally),
-            Call::Read => answer_of(self.search.reading(), 0),
-        }
+    fn carry_out(&mut self, call: Call, tally: &mut Tally) -> Result<Answer, SearchRefusal> {
+        let (reading, made) = match call {
+            Call::Start(component) => (self.search.start(component)?, 0),
+            Call::Split => (self.search.split()?, 1),
+            Call::Run(budget) => return self.run(budget, tally),
+            Call::Read => (self.search.reading()?, 0),
+        };
+        Ok(Answer { reading, made })
     }
 
-    // The reading now; the only refusal is 21.
+    // The reading now; the only refusal is that the search is not started.
     fn reading(&self, tally: &mut Tally) -> Option<Reading> {
-        match self.search.reading() {
-            Ok(reading) => Some(reading),
-            Err(refusal) => {
-                tally.expect(refusal.number() == 21);
-                None
-            }
+        let reading = self.search.reading();
+        if let Err(refusal) = reading {
+            tally.expect(refusal == SearchRefusal::NotStarted);
         }
+        reading.ok()
     }
 
     /// Makes a call, and checks its answer and the reading after it.
@@ -124,7 +143,7 @@ impl<M: Enclosure + Copy, R: Rule + Copy> Watched<M, R> {
         let answer = self.carry_out(call, tally);
         let after = self.reading(tally);
         match (answer, due) {
-            (Ok(answer), None) => {
+            (Ok(answer), Ok(())) => {
                 tally.expect(after == Some(answer.reading));
                 self.splits = self.splits.saturating_add(u64::from(answer.made));
                 if let Call::Start(component) = call {
@@ -132,7 +151,7 @@ impl<M: Enclosure + Copy, R: Rule + Copy> Watched<M, R> {
                     tally.expect(self.is_first(answer.reading));
                 }
             }
-            (Err(number), Some(due)) => tally.expect(number == due && after == self.last),
+            (Err(refusal), Err(due)) => tally.expect(refusal == due && after == self.last),
             _ => tally.expect(false),
         }
         if let Some(reading) = after {
@@ -143,10 +162,8 @@ impl<M: Enclosure + Copy, R: Rule + Copy> Watched<M, R> {
 
     // Whether a reading is that of a search just started: one record, with the low figure of the whole system.
     fn is_first(&self, reading: Reading) -> bool {
-        match self.interval_of(&self.system) {
-            Some(interval) => reading.low == interval.low() && reading.waiting == 1,
-            None => false,
-        }
+        self.interval_of(&self.system).is_some_and(|interval| reading.low == interval.low()
+            && reading.waiting == 1)
     }
 
     fn check_reading(&self, reading: Reading, tally: &mut Tally) {
@@ -163,7 +180,7 @@ impl<M: Enclosure + Copy, R: Rule + Copy> Watched<M, R> {
     // The splits are those made, at most one less than there are corners, and then the search is settled; 1 to 512 records wait, and the
     // figures are in order.
     fn check_counts(&self, reading: Reading, tally: &mut Tally) {
-        let most = u64::from(corners(&self.system)).saturating_sub(1);
+        let most = (self.corners.len() as u64).saturating_sub(1);
         tally.expect(reading.splits == self.splits);
         tally.expect(reading.splits < most || reading.splits == most && reading.settled);
         tally.expect(1 <= reading.waiting && reading.waiting <= 512);
@@ -172,38 +189,26 @@ impl<M: Enclosure + Copy, R: Rule + Copy> Watched<M, R> {
 
     // No corner's component is below the low figure, and some corner's is not above the high figure.
     fn check_corners(&self, reading: Reading, tally: &mut Tally) {
-        let mut reached = false;
-        for number in 0..corners(&self.system) {
-            let corner = Corner::numbered(&self.system, number);
+        for corner in &self.corners {
             tally.corners = tally.corners.saturating_add(1);
-            tally.expect(corner.is_at_least(self.component, reading.low));
-            if corner.is_at_most(self.component, reading.high) {
-                reached = true;
-            }
+            let exact = self.exact_at(corner);
+            tally.expect(exact.is_some_and(|exact| exact.is_at_least(reading.low)));
         }
-        tally.expect(reached);
+        tally.expect(
+            self.corners.iter().any(|corner| {
+                self.exact_at(corner)
+                    .is_some_and(|exact| exact.is_at_most(reading.high))
+            }),
+        );
     }
 
     // Whether the method's interval for some corner has the low figure for its low end, and the high figure not above its high end.
     fn ends_at_corner(&self, reading: Reading) -> bool {
-        let mut found = false;
-        for number in 0..corners(&self.system) {
-            if let Some(interval) = self.interval_of(&thin(&self.system, number)) {
-                if interval.low() == reading.low && reading.high <= interval.high() {
-                    found = true;
-                }
-            }
-        }
-        found
-    }
-
-    // The method's interval for the component of a system.
-    fn interval_of(&self, system: &System) -> Option<Interval> {
-        let mut row = [Interval::zero(); 6];
-        match self.method.enclose(system, &mut row) {
-            Ok(()) => row.get(self.component).copied(),
-            Err(_) => None,
-        }
+        self.corners.iter().any(|corner| {
+            self.interval_of(corner).is_some_and(|interval| {
+                interval.low() == reading.low && reading.high <= interval.high()
+            })
+        })
     }
 
     /// Counts the search as it stands at the end of its calls.

@@ -1,6 +1,5 @@
-ghost use Rattle.std.specs.Prelude.{◌≡◌, ◌<◌, [], ◌∷◌, ◌++◌, length, IfOk, nat_le};
+ghost use Rattle.std.specs.Prelude.{◌≡◌, ◌<◌, [], ◌∷◌, ◌++◌, length, IfOk, MatchOption, nat_le};
 ghost use Rattle.std.specs.List.{remove};
-ghost use Rattle.searches.specs.States.{items_of};
 ghost use Rattle.outcomes.specs.Waiting.{leading_at, leading, kept_below};
 
 use crate::records::{MOST_WAITING, Records};
@@ -11,83 +10,71 @@ use std::alloc::{AllocError, Global};
 impl Records {
     // An empty table with its room.
     pub(crate) fn new(heap: Global) -> Result<Records, AllocError>
-        ensures { IfOk result (λ t. items_of t ≡ []) }
+        ensures { IfOk result (λ table. table ≡ []) }
     {
         let items = Vec::with_capacity(heap, MOST_WAITING)?;
         Ok(Records { items })
     }
 
     pub(crate) fn len(&self) -> usize
-        ensures { result ≡ length (items_of self.now) }
+        ensures { result ≡ length self.now }
     {
         self.items.len()
     }
 
     // Whether no more records may wait.
     pub(crate) fn is_full(&self) -> bool
-        ensures { result ≡ nat_le 512 (length (items_of self.now)) }
+        ensures { result ≡ nat_le 512 (length self.now) }
     {
         self.items.len() >= MOST_WAITING
     }
 
-    // The place of the leading record: the least low figure, the earliest made among equals.
-    fn leading_at(&self) -> usize
-        ensures { result ≡ leading_at (items_of self.now) }
+    // The leading record with its place: the least low figure, the earliest made among equals.
+    fn leader(&self) -> Option<(usize, &Record)>
+        ensures { MatchOption result (length self.now ≡ 0) (λ found. (found.0 < length self.now) × (found.0 ≡ leading_at self.now) × (found.1.now ≡ leading self.now)) }
     {
-        let mut best = 0;
-        for place in 0..self.items.len() {
-            if self.items[place].low < self.items[best].low {
-                best = place;
-            }
-        }
-        best
+        self.items
+            .iter()
+            .enumerate()
+            .min_by_key(|(_, record)| record.low)
     }
 
     // The leading record; in an empty table one with low figure 0 and no mark.
     pub(crate) fn leading(&self) -> Record
-        ensures { result ≡ leading (items_of self.now) }
+        ensures { result ≡ leading self.now }
     {
-        match self.items.get(self.leading_at()) {
-            Some(record) => *record,
-            None => Record {
-                low: 0,
-                marks: Marks::none(),
-            },
-        }
+        let none = Record {
+            low: 0,
+            marks: Marks::none(),
+        };
+        self.leader().map_or(none, |(_, record)| *record)
     }
 
     // A table of one record.
     pub(crate) fn restart(&mut self, first: Record)
-        ensures { items_of self.new ≡ first ∷ [] }
+        ensures { self.new ≡ first ∷ [] }
     {
         self.items.clear();
         self.items.push_reserved(first);
     }
 
-    // Takes the leading record out.
-    pub(crate) fn remove_leading(&mut self)
-        requires { length (items_of self.old) < 512 }
-        ensures items { items_of self.new ≡ remove (items_of self.old) (leading_at (items_of self.old)) }
-        ensures room { length (items_of self.new) < 511 }
+    // Takes the leading record out, and puts two behind the others.
+    pub(crate) fn replace_leading(&mut self, first: Record, second: Record)
+        requires { length self.old < 512 }
+        ensures { self.new ≡ remove self.old (leading_at self.old) ++ first ∷ second ∷ [] }
     {
-        let place = self.leading_at();
-        if place < self.items.len() {
+        if let Some((place, _)) = self.leader() {
             self.items.remove(place);
         }
-    }
-
-    // Puts a record behind the others.
-    pub(crate) fn put(&mut self, last: Record)
-        requires { length (items_of self.old) < 512 }
-        ensures { items_of self.new ≡ items_of self.old ++ last ∷ [] }
-    {
-        self.items.push_reserved(last);
+        self.items.push_reserved(first);
+        self.items.push_reserved(second);
     }
 
     // Drops each record whose low figure is above the high figure; the others keep their order.
     pub(crate) fn drop_above(&mut self, high: i64)
-        ensures { items_of self.new ≡ kept_below high (items_of self.old) }
+        ensures { self.new ≡ kept_below high self.old }
     {
+        // A loop, not `retain`: by a rule of the search each low figure is compared with the high figure one by one, in a fixed table.
         let mut count = 0;
         for place in 0..self.items.len() {
             let record = self.items[place];

@@ -1,10 +1,9 @@
 ghost use Rattle.std.specs.Prelude.{◌≡◌, ◌<◌, true, ◌&&◌, length, is_ok, IfOk, if◌then◌else◌, Some, None, ◌==◌, nat_le};
-ghost use Rattle.std.specs.Int.{int_min};
 ghost use Rattle.systems.specs.Tables.{table_of, wide_entries};
 ghost use Rattle.outcomes.specs.declared.reading.Stop.TheVariants as stop;
 ghost use Rattle.outcomes.specs.Promise.{Promised};
 ghost use Rattle.outcomes.specs.Searching.{box, figures_of, entered, replaced, place_by, reading_of, split_of, run_of, report_of, start, split, run, read, step};
-ghost use Rattle.searches.specs.States.{items_of, started_from, state_of, tried, ends_in, answer_of, reported_by, replaced_by, Advanced, SameParts};
+ghost use Rattle.searches.specs.States.{started_from, state_of, tried, ends_in, answer_of, reported_by, replaced_by, Advanced, SameParts};
 ghost use Rattle.outcomes.specs.Waiting.{leading};
 
 use crate::records::Records;
@@ -19,64 +18,6 @@ use partition::rule::Rule;
 use std::alloc::{AllocError, Global};
 use systems::system::System;
 
-// Whether a component, counted from 1, is there.
-fn has_component(system: &System, component: usize) -> bool
-    ensures { result ≡ (nat_le 1 component && nat_le component (table_of system.now).size) }
-{
-    1 <= component && component <= system.size()
-}
-
-// A component, counted from 0, of the method's row for a system.
-fn figures<M: Enclosure>(
-    method: &M,
-    system: &System,
-    component: usize,
-) -> Result<Interval, SearchRefusal>
-    ensures { ends_in result ≡ figures_of component (M.Enclosure.meaning method.now (table_of system.now)) }
-{
-    let mut row = [Interval::zero(); 6];
-    method.enclose(system, &mut row)?;
-    match row.get(component) {
-        Some(interval) => Ok(*interval),
-        None => Ok(Interval::zero()),
-    }
-}
-
-// The record of a box, and the high figure of its midpoint system.
-fn enter<M: Enclosure>(
-    method: &M,
-    system: &System,
-    component: usize,
-    marks: Marks,
-) -> Result<Entered, SearchRefusal>
-    ensures { result ≡ entered (M.Enclosure.meaning method.now) (table_of system.now) component marks }
-{
-    let inner = marks.boxed(system);
-    let low = figures(method, &inner, component)?.low();
-    let middle = inner.midpoint();
-    let high = figures(method, &middle, component)?.high();
-    Ok(Entered {
-        waiting: Record { low, marks },
-        high,
-    })
-}
-
-// The place that the rule answers for a box, by the method's row there.
-fn place_by<M: Enclosure, R: Rule>(
-    method: &M,
-    rule: &R,
-    inner: &System,
-) -> Result<usize, SearchRefusal>
-    ensures { result ≡ place_by (R.Rule.answer rule.now) (table_of inner.now) (M.Enclosure.meaning method.now (table_of inner.now)) }
-{
-    let mut row = [Interval::zero(); 6];
-    method.enclose(inner, &mut row)?;
-    match rule.choose(inner, &row[..inner.size()]) {
-        Some(place) => Ok(place),
-        None => Err(SearchRefusal::Settled),
-    }
-}
-
 // Why a run ends where the search is settled or not, and full or not.
 fn stop_at(settled: bool, full: bool) -> Stop
     ensures { result ≡ (if settled then stop.Settled else (if full then stop.Full else stop.Budget)) }
@@ -90,21 +31,14 @@ fn stop_at(settled: bool, full: bool) -> Stop
     }
 }
 
-fn least(first: i64, second: i64, third: i64) -> i64
-    ensures { result ≡ int_min (int_min first second) third }
-{
-    first.min(second).min(third)
-}
-
 // Two records in the place of the leading one; those above the high figure are dropped.
+#[tactic(auto, unfolding(outcomes::specs::Searching::replaced))]
 fn replace(waiting: &mut Records, progress: Progress, halves: Halves) -> Progress
-    requires { length (items_of waiting.old) < 512 }
-    ensures { started_from result (items_of waiting.new) ≡ replaced (started_from progress (items_of waiting.old)) halves.low halves.high }
+    requires { length waiting.old < 512 }
+    ensures { started_from result waiting.new ≡ replaced (started_from progress waiting.old) halves.low halves.high }
 {
-    let high = least(progress.high, halves.low.high, halves.high.high);
-    waiting.remove_leading();
-    waiting.put(halves.low.waiting);
-    waiting.put(halves.high.waiting);
+    let high = progress.high.min(halves.low.high).min(halves.high.high);
+    waiting.replace_leading(halves.low.waiting, halves.high.waiting);
     waiting.drop_above(high);
     Progress {
         component: progress.component,
@@ -130,9 +64,51 @@ impl<M: Enclosure + Drop, R: Rule + Drop> Search<M, R> {
 }
 
 impl<M: Enclosure, R: Rule> Search<M, R> {
+    // Whether a component, counted from 1, is there.
+    fn has_component(&self, component: usize) -> bool
+        ensures { result ≡ (nat_le 1 component && nat_le component (table_of self.now.system).size) }
+    {
+        (1..=self.system.size()).contains(&component)
+    }
+
+    // A component, counted from 0, of the method's row for a system.
+    fn figures(&self, system: &System, component: usize) -> Result<Interval, SearchRefusal>
+        ensures { ends_in result ≡ figures_of component (M.Enclosure.meaning self.now.method (table_of system.now)) }
+    {
+        let mut row = [Interval::zero(); 6];
+        self.method.enclose(system, &mut row)?;
+        Ok(row.get(component).copied().unwrap_or(Interval::zero()))
+    }
+
+    // The record of a box, and the high figure of its midpoint system.
+    #[tactic(auto, unfolding(outcomes::specs::Searching::entered))]
+    fn enter(&self, component: usize, marks: Marks) -> Result<Entered, SearchRefusal>
+        ensures { result ≡ entered (M.Enclosure.meaning self.now.method) (table_of self.now.system) component marks }
+    {
+        let inner = marks.boxed(&self.system);
+        let low = self.figures(&inner, component)?.low();
+        let middle = inner.midpoint();
+        let high = self.figures(&middle, component)?.high();
+        Ok(Entered {
+            waiting: Record { low, marks },
+            high,
+        })
+    }
+
+    // The place that the rule answers for a box, by the method's row there.
+    fn place_by(&self, inner: &System) -> Result<usize, SearchRefusal>
+        ensures { result ≡ place_by (R.Rule.answer self.now.rule) (table_of inner.now) (M.Enclosure.meaning self.now.method (table_of inner.now)) }
+    {
+        let mut row = [Interval::zero(); 6];
+        self.method.enclose(inner, &mut row)?;
+        self.rule
+            .choose(inner, &row[..inner.size()])
+            .ok_or(SearchRefusal::Settled)
+    }
+
     // Whether the leading box has no wide entry.
     fn is_settled(&self) -> bool
-        ensures { result ≡ (wide_entries (box (table_of self.now.system) (leading (items_of self.now.waiting)).marks) == 0) }
+        ensures { result ≡ (wide_entries (box (table_of self.now.system) (leading self.now.waiting).marks) == 0) }
     {
         self.waiting
             .leading()
@@ -142,8 +118,9 @@ impl<M: Enclosure, R: Rule> Search<M, R> {
             == 0
     }
 
+    #[tactic(auto, unfolding(outcomes::specs::Searching::settled, outcomes::specs::Searching::reading_of))]
     fn reading_of(&self, progress: Progress) -> Reading
-        ensures { result ≡ reading_of (table_of self.now.system) (started_from progress (items_of self.now.waiting)) }
+        ensures { result ≡ reading_of (table_of self.now.system) (started_from progress self.now.waiting) }
     {
         Reading {
             low: self.waiting.leading().low,
@@ -156,6 +133,7 @@ impl<M: Enclosure, R: Rule> Search<M, R> {
 
     /// Starts the search for a component, counted from 1. It is refused with 22 where it is started already, with 5 where there is no
     /// such component, and with the method's fault.
+    #[tactic(auto, unfolding(outcomes::specs::Searching::start_of))]
     pub fn start(&mut self, component: usize) -> Result<Reading, SearchRefusal>
         ensures outcome { (answer_of result, state_of self.new) ≡ step (M.Enclosure.meaning self.old.method) (R.Rule.answer self.old.rule) (table_of self.old.system) (start component) (state_of self.old) }
         ensures same { SameParts self.old self.new }
@@ -163,10 +141,10 @@ impl<M: Enclosure, R: Rule> Search<M, R> {
         if self.progress.is_some() {
             return Err(SearchRefusal::AlreadyStarted);
         }
-        if !has_component(&self.system, component) {
+        if !self.has_component(component) {
             return Err(SearchRefusal::ComponentOutOfRange);
         }
-        let first = enter(&self.method, &self.system, component - 1, Marks::none())?;
+        let first = self.enter(component - 1, Marks::none())?;
         let progress = Progress {
             component: component - 1,
             high: first.high,
@@ -178,9 +156,10 @@ impl<M: Enclosure, R: Rule> Search<M, R> {
     }
 
     // The two records that a split enters.
+    #[tactic(auto, unfolding(outcomes::specs::Searching::settled, outcomes::specs::Searching::full, outcomes::specs::Searching::place_of, outcomes::specs::Searching::opened_at, outcomes::specs::Searching::split_of))]
     fn halves(&self, progress: Progress) -> Result<Halves, SearchRefusal>
-        ensures outcome { replaced_by (started_from progress (items_of self.now.waiting)) result ≡ split_of (M.Enclosure.meaning self.now.method) (R.Rule.answer self.now.rule) (table_of self.now.system) (started_from progress (items_of self.now.waiting)) }
-        ensures room { is_ok result ≡ true → length (items_of self.now.waiting) < 512 }
+        ensures outcome { replaced_by (started_from progress self.now.waiting) result ≡ split_of (M.Enclosure.meaning self.now.method) (R.Rule.answer self.now.rule) (table_of self.now.system) (started_from progress self.now.waiting) }
+        ensures room { is_ok result ≡ true → length self.now.waiting < 512 }
     {
         if self.is_settled() {
             return Err(SearchRefusal::Settled);
@@ -189,19 +168,9 @@ impl<M: Enclosure, R: Rule> Search<M, R> {
             return Err(SearchRefusal::Full);
         }
         let marks = self.waiting.leading().marks;
-        let place = place_by(&self.method, &self.rule, &marks.boxed(&self.system))?;
-        let low = enter(
-            &self.method,
-            &self.system,
-            progress.component,
-            marks.fix(place, End::Low),
-        )?;
-        let high = enter(
-            &self.method,
-            &self.system,
-            progress.component,
-            marks.fix(place, End::High),
-        )?;
+        let place = self.place_by(&marks.boxed(&self.system))?;
+        let low = self.enter(progress.component, marks.fix(place, End::Low))?;
+        let high = self.enter(progress.component, marks.fix(place, End::High))?;
         Ok(Halves { low, high })
     }
 
@@ -210,10 +179,7 @@ impl<M: Enclosure, R: Rule> Search<M, R> {
         ensures outcome { Advanced result self.old self.new (tried (M.Enclosure.meaning self.old.method) (R.Rule.answer self.old.rule) (table_of self.old.system) (state_of self.old)) }
         ensures same { SameParts self.old self.new }
     {
-        let progress = match self.progress {
-            Some(progress) => progress,
-            None => return Err(SearchRefusal::NotStarted),
-        };
+        let progress = self.progress.ok_or(SearchRefusal::NotStarted)?;
         let halves = self.halves(progress)?;
         let next = replace(&mut self.waiting, progress, halves);
         self.progress = Some(next);
@@ -233,18 +199,14 @@ impl<M: Enclosure, R: Rule> Search<M, R> {
     // Splits until one is refused or the budget is used.
     fn run_on(&mut self, progress: Progress, budget: u32) -> Ran
         requires { self.old.progress ≡ Some progress }
-        ensures outcome { (result.made, started_from result.progress (items_of self.new.waiting)) ≡ run_of (M.Enclosure.meaning self.old.method) (R.Rule.answer self.old.rule) (table_of self.old.system) budget (started_from progress (items_of self.old.waiting)) }
+        ensures outcome { (result.made, started_from result.progress self.new.waiting) ≡ run_of (M.Enclosure.meaning self.old.method) (R.Rule.answer self.old.rule) (table_of self.old.system) budget (started_from progress self.old.waiting) }
         ensures state { self.new.progress ≡ Some result.progress }
         ensures same { SameParts self.old self.new }
     {
-        let mut made = 0;
         let mut current = progress;
-        while made < budget {
+        for made in 0..budget {
             match self.advance() {
-                Ok(next) => {
-                    current = next;
-                    made += 1;
-                }
+                Ok(next) => current = next,
                 Err(_) => {
                     return Ran {
                         made,
@@ -254,14 +216,15 @@ impl<M: Enclosure, R: Rule> Search<M, R> {
             }
         }
         Ran {
-            made,
+            made: budget,
             progress: current,
         }
     }
 
     // What a run reports that ends here.
+    #[tactic(auto, unfolding(outcomes::specs::Searching::full, outcomes::specs::Searching::reading_of, outcomes::specs::Searching::stop_of))]
     fn report(&self, ran: Ran) -> Report
-        ensures { result ≡ report_of (table_of self.now.system) (ran.made, started_from ran.progress (items_of self.now.waiting)) }
+        ensures { result ≡ report_of (table_of self.now.system) (ran.made, started_from ran.progress self.now.waiting) }
     {
         let reading = self.reading_of(ran.progress);
         Report {
@@ -277,10 +240,7 @@ impl<M: Enclosure, R: Rule> Search<M, R> {
         ensures outcome { (reported_by result, state_of self.new) ≡ step (M.Enclosure.meaning self.old.method) (R.Rule.answer self.old.rule) (table_of self.old.system) (run budget) (state_of self.old) }
         ensures same { SameParts self.old self.new }
     {
-        let progress = match self.progress {
-            Some(progress) => progress,
-            None => return Err(SearchRefusal::NotStarted),
-        };
+        let progress = self.progress.ok_or(SearchRefusal::NotStarted)?;
         let ran = self.run_on(progress, budget);
         Ok(self.report(ran))
     }
@@ -290,9 +250,7 @@ impl<M: Enclosure, R: Rule> Search<M, R> {
         ensures outcome { (answer_of result, state_of self.now) ≡ step (M.Enclosure.meaning self.now.method) (R.Rule.answer self.now.rule) (table_of self.now.system) read (state_of self.now) }
         ensures promise { Promised (M.Enclosure.meaning self.now.method) (R.Rule.answer self.now.rule) (table_of self.now.system) result (state_of self.now) }
     {
-        match self.progress {
-            Some(progress) => Ok(self.reading_of(progress)),
-            None => Err(SearchRefusal::NotStarted),
-        }
+        let progress = self.progress.ok_or(SearchRefusal::NotStarted)?;
+        Ok(self.reading_of(progress))
     }
 }

@@ -1,17 +1,31 @@
 //! How entries are made and read.
-ghost use Rattle.std.specs.Prelude.{◌≡◌, pos};
+ghost use Rattle.std.specs.Prelude.{◌≡◌, pos, neg_ℤ, ◌≤ℤ◌};
 ghost use Rattle.algebra.specs.Ends.{from_to};
 ghost use Rattle.systems.specs.Entries.{ends_of, entry_answer, entry_of, is_wide, middle, thin};
 
 use crate::entry::{Entry, MOST};
 use crate::refusal::Refusal;
 
+// The entry that holds one number alone.
+fn thin(end: i32) -> Entry
+    requires above { neg_ℤ (pos 65536) ≤ℤ end }
+    requires below { end ≤ℤ pos 65536 }
+    ensures { ends_of result ≡ thin end }
+{
+    Entry {
+        low: end,
+        high: end,
+    }
+}
+
 impl Entry {
     /// The entry from `low` to `high`: refused with 3 where an end is out of range, then with 4 where they are out of order.
+    #[tactic(auto, unfolding(crate::specs::Entries::entry_of))]
     pub fn new(low: i32, high: i32) -> Result<Entry, Refusal>
         ensures { entry_answer result ≡ entry_of low high }
     {
-        if low < -MOST || MOST < low || high < -MOST || MOST < high {
+        let range = -MOST..=MOST;
+        if !range.contains(&low) || !range.contains(&high) {
             return Err(Refusal::EndOutOfRange);
         }
         if low > high {
@@ -24,7 +38,7 @@ impl Entry {
     pub fn zero() -> Entry
         ensures { ends_of result ≡ from_to (pos 0) (pos 0) }
     {
-        Entry { low: 0, high: 0 }
+        thin(0)
     }
 
     /// The low end.
@@ -42,6 +56,7 @@ impl Entry {
     }
 
     /// Whether the ends differ.
+    #[tactic(auto, unfolding(crate::specs::Entries::is_wide))]
     pub fn is_wide(self) -> bool
         ensures { result ≡ is_wide (ends_of self) }
     {
@@ -49,33 +64,24 @@ impl Entry {
     }
 
     /// The entry that is thin at half the sum of the ends, rounded down. The midpoint of [-3, 0] is -2.
+    #[tactic(auto, unfolding(crate::specs::Entries::middle, algebra::specs::Order::floor_div))]
     pub fn midpoint(self) -> Entry
         ensures { ends_of result ≡ middle (ends_of self) }
     {
-        let half = (self.low + self.high).div_euclid(2);
-        Entry {
-            low: half,
-            high: half,
-        }
+        thin((self.low + self.high).div_euclid(2))
     }
 
     /// The entry that is thin at the low end.
     pub fn at_low(self) -> Entry
         ensures { ends_of result ≡ thin (ends_of self).low }
     {
-        Entry {
-            low: self.low,
-            high: self.low,
-        }
+        thin(self.low)
     }
 
     /// The entry that is thin at the high end.
     pub fn at_high(self) -> Entry
         ensures { ends_of result ≡ thin (ends_of self).high }
     {
-        Entry {
-            low: self.high,
-            high: self.high,
-        }
+        thin(self.high)
     }
 }

@@ -1,49 +1,37 @@
-use Rattle.std.proofs.Common.{◌≡◌, ◌+◌, ◌<◌, ◌≤◌, map, length, sym, ◌∙◌, arith, length-set, rules}
+use Rattle.std.proofs.Common.{◌<◌, map, length, refl, ◌∙◌, arith}
 use Rattle.std.proofs.lemmas.Result.{err_from_is_err_and}
-use Rattle.std.specs.List.{between}
+use Rattle.algebra.specs.Chaining.{each}
 use Rattle.enclosures.specs.Elimination.{reduced_of}
 use Rattle.enclosures.specs.Working.{viewed}
-use Rattle.enclosures.proofs.Walks.{first, each_with_lem, going_all, viewed_more, viewed_refused, viewed_rest}
+use Rattle.enclosures.proofs.Views.{unchained, each_on, each_stop, each_end, rest_on}
 use Rattle.enclosures.proofs.elimination.clear_column.Goals as goal
 
-pub loop-i-preserved : goal.loop-i-preserved
-loop-i-preserved c =
-    let l = c.loop-i in
-    let k = c.args.k in
-    let n = c.args.n in
-    let old = c.args.lines.now in
-    let z = c.in_ok-lines.field-0 in
-    let from : k + 1 ≤ l.i = omega arith in
-    let below : l.i < n = omega arith in
-    let long : n ≤ length old = search rules in
-    let long'' : n ≤ length l.lines = omega (arith, l.invariant.0) in (
-      simp length-set l.invariant.0,
-      viewed_rest (viewed k n) (viewed (k + 1) n) (viewed k n) (first (reduced_of (viewed k n c.args.pivot.now))) old l.lines old (k + 1) n l.i z z from below long long long'' l.invariant.1 l.invariant.2 z,
-      viewed_more (viewed k n) (viewed (k + 1) n) (viewed k n) (first (reduced_of (viewed k n c.args.pivot.now))) old l.lines old (k + 1) n l.i c.index-lines-i.result z from below long long long'' l.invariant.1 l.invariant.2 z (sym c.in_ok-lines.ensures),
+pub loop-line-init : goal.loop-line-init
+loop-line-init c = (unchained (each (reduced_of (viewed c.args.pivot.now)) (map viewed c.args.lines.now)), refl)
+
+pub loop-line-preserved : goal.loop-line-preserved
+loop-line-preserved c =
+    let l = c.loop-line in
+    let f = reduced_of (viewed c.args.pivot.now) in
+    let was = c.args.lines.now in
+    let h : l.line-index < length l.lines = omega arith in
+    let h' : l.line-index < length was = omega arith in (
+      l.invariant.0 ∙ each_on f viewed viewed l.lines was l.line-index c.line-item.result c.in_ok-line.field-0 h h' l.invariant.1 c.in_ok-line.ensures,
+      rest_on f viewed viewed l.lines was l.line-index c.line-item.result c.in_ok-line.field-0 h h' l.invariant.1,
     )
+
+pub returns-in_err-line : goal.returns-in_err-line
+returns-in_err-line c =
+    let l = c.loop-line in
+    let f = reduced_of (viewed c.args.pivot.now) in
+    let was = c.args.lines.now in
+    let h : l.line-index < length l.lines = omega arith in
+    let h' : l.line-index < length was = omega arith in
+    let q = err_from_is_err_and c.from_residual.result c.from_residual.ensures.1 in
+    rw (q.1, q.2) (l.invariant.0 ∙ each_stop f viewed viewed l.lines was l.line-index c.line-item.result c.line-item.result h h' l.invariant.1 _ c.in_err-line.ensures)
 
 pub returns : goal.returns
 returns c =
-    let l = c.loop-i in
-    let k = c.args.k in
-    let n = c.args.n in
-    let old = map (viewed k n) c.args.lines.now in
-    let end : l.i ≡ n = omega arith in
-    each_with_lem (reduced_of (viewed k n c.args.pivot.now)) (between (k + 1) n old)
-    ∙ going_all (first (reduced_of (viewed k n c.args.pivot.now))) old old (k + 1) n (map (viewed (k + 1) n) l.lines) (rw end at l.invariant.2)
-
-pub returns-in_err-lines : goal.returns-in_err-lines
-returns-in_err-lines c =
-    let l = c.loop-i in
-    let k = c.args.k in
-    let n = c.args.n in
-    let old = c.args.lines.now in
-    let z = c.index-lines-i.result in
-    let from : k + 1 ≤ l.i = omega arith in
-    let below : l.i < n = omega arith in
-    let long : n ≤ length old = search rules in
-    let long'' : n ≤ length l.lines = omega (arith, l.invariant.0) in
-    let q = err_from_is_err_and c.from_residual.result c.from_residual.ensures.1 in
-    rw (q.1, q.2)
-    (each_with_lem (reduced_of (viewed k n c.args.pivot.now)) (between (k + 1) n (map (viewed k n) old))
-    ∙ viewed_refused (viewed k n) (viewed (k + 1) n) (viewed k n) (first (reduced_of (viewed k n c.args.pivot.now))) old l.lines old (k + 1) n l.i z z from below long long long'' l.invariant.1 l.invariant.2 _ (sym c.in_err-lines.ensures))
+    let l = c.loop-line in
+    let f = reduced_of (viewed c.args.pivot.now) in
+    l.invariant.0 ∙ each_end f viewed viewed l.lines c.args.lines.now l.line-index (omega arith) (omega arith)

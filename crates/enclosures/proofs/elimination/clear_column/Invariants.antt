@@ -1,11 +1,12 @@
-use Rattle.std.proofs.Common.{◌≡◌, ◌+◌, map, length, drop}
+-- The lines so far are reduced, and the others are as they were.
+use Rattle.std.proofs.Common.{◌≡◌, ◌++◌, map, take, drop, Ok}
+use Rattle.algebra.specs.Chaining.{and_then, each}
 use Rattle.enclosures.specs.Elimination.{reduced_of}
 use Rattle.enclosures.specs.Working.{viewed}
-use Rattle.enclosures.proofs.Walks.{Going, first}
 use Rattle.enclosures.proofs.elimination.clear_column.Given as goal
 
-abbrev pub invariant-loop-i : goal.invariant-loop-i
-invariant-loop-i l =
-    (length l.lines ≡ 6)
-    × (drop l.i l.lines ≡ drop l.i l.initial.lines)
-    × Going (first (reduced_of (viewed l.k l.n l.pivot))) (map (viewed l.k l.n) l.initial.lines) (map (viewed l.k l.n) l.initial.lines) (l.k + 1) l.n l.i (map (viewed (l.k + 1) l.n) l.lines)
+abbrev pub invariant-loop-line : goal.invariant-loop-line
+invariant-loop-line l =
+    (each (reduced_of (viewed l.pivot)) (map viewed l.initial.lines)
+    ≡ and_then (each (reduced_of (viewed l.pivot)) (map viewed (drop l.line-index l.initial.lines))) (λ ys. Ok (map viewed (take l.line-index l.lines) ++ ys)))
+    × (drop l.line-index l.lines ≡ drop l.line-index l.initial.lines)

@@ -1,20 +1,27 @@
-use Rattle.std.proofs.Common.{◌≡◌, ◌<◌, length, arith, length-set}
+use Rattle.std.proofs.Common.{◌≡◌, ◌<◌, ◌++◌, ◌∷◌, [], map, length, sym, ap, ◌∙◌, arith, rules}
+use Rattle.std.proofs.lemmas.List.{map-append, length-map}
+use Rattle.std.proofs.lemmas.List.FromFn.{map-range_with_len_more, length-map-range_with_len}
+use Rattle.std.specs.List.{range_with_len}
 use Rattle.systems.specs.Tables.{table_of}
 use Rattle.enclosures.specs.Elimination.{row_of}
 use Rattle.enclosures.specs.Working.{viewed}
-use Rattle.algebra.proofs.Filling.{filled_more, filled_all}
 use Rattle.enclosures.proofs.elimination.lines.Goals as goal
 
 pub loop-i-preserved : goal.loop-i-preserved
 loop-i-preserved c =
     let l = c.loop-i in
-    let t = table_of c.args.system.now in
-    let h : l.i < length l.lines = omega (arith, l.invariant.0) in
-    (simp length-set l.invariant.0, filled_more (viewed 0 t.size) (row_of t) l.lines l.i c.line.result h c.line.ensures l.invariant.1)
+    ap (map viewed) c.push.ensures.items ∙ map-append viewed l.lines.items (c.new.result ∷ [])
+    ∙ (λ k. l.invariant k ++ c.new.ensures k ∷ []) ∙ sym (map-range_with_len_more (row_of (table_of c.args.system.now)) 0 l.i l.i (omega arith))
+
+pub push-requires : goal.push-requires
+push-requires c =
+    let l = c.loop-i in
+    let many = sym (length-map l.lines.items viewed) ∙ ap length l.invariant ∙ length-map-range_with_len (row_of (table_of c.args.system.now)) 0 l.i in
+    let room : length l.lines.items < 6 = omega (arith, many, c.size-i-end.ensures.few) in
+    search rules
 
 pub returns : goal.returns
 returns c =
     let l = c.loop-i in
-    let t = table_of c.args.system.now in
-    let end : l.i ≡ t.size = omega (arith, c.size-i-end.ensures.value) in
-    filled_all (viewed 0 t.size) (row_of t) l.lines t.size (rw end at l.invariant.1)
+    let end : l.i ≡ (table_of c.args.system.now).size = omega (arith, c.size-i-end.ensures.value) in
+    l.invariant ∙ ap (λ n. map (row_of (table_of c.args.system.now)) (range_with_len 0 n)) end

@@ -1,41 +1,30 @@
-use Rattle.std.proofs.Common.{◌≡◌, ℕ, ◌-◌, ◌<◌, map, take, drop, sym, refl, ap, ◌∙◌, subst, arith, length-set}
-use Rattle.std.proofs.lemmas.List.{drop-set-lt}
+use Rattle.std.proofs.Common.{◌≡◌, ◌-◌, ◌<◌, map, length, sym, ap, ◌∙◌, arith}
+use Rattle.std.proofs.lemmas.List.{length-map}
+use Rattle.std.proofs.lemmas.List.FromFn.{length-map-range_with_len}
 use Rattle.grains.specs.Arithmetic.{ends_of}
 use Rattle.systems.specs.Tables.{table_of}
-use Rattle.enclosures.specs.Elimination.{row_of}
+use Rattle.enclosures.specs.Elimination.{row_of, working_at}
 use Rattle.enclosures.specs.Sweeping.{swept_from}
-use Rattle.enclosures.specs.Working.{viewed}
 use Rattle.enclosures.specs.Sweeps.{swept_more, swept_all}
 use Rattle.enclosures.proofs.sweep.narrow_all.Goals as goal
-
-pub loop-i-init : goal.loop-i-init
-loop-i-init c =
-    let n = c.size-n.result in
-    let all : n ≡ n - 0 = omega arith in
-    (c.told-row, ap (λ m. swept_from m 0 (table_of c.args.system.now) (take n (map ends_of c.args.row.now))) all, refl)
 
 pub loop-i-preserved : goal.loop-i-preserved
 loop-i-preserved c =
     let l = c.loop-i in
     let t = table_of c.args.system.now in
-    let n = c.size-n.result in
-    let below : l.i < n = omega arith in
-    let line : viewed 0 n c.line.result ≡ row_of t l.i = ap (λ m. viewed 0 m c.line.result) c.size-n.ensures.value ∙ c.line.ensures in (
-      simp length-set l.invariant.0,
-      l.invariant.1 ∙ swept_more t n l.i l.row c.narrowed.result c.line.result below line c.narrowed.ensures,
-      drop-set-lt n l.row l.i c.narrowed.result below ∙ l.invariant.2,
-    )
+    let below : l.i < t.size = omega (arith, c.requires) in
+    l.invariant ∙ swept_more t t.size l.i l.row c.narrowed.result c.new.result below c.new.ensures c.narrowed.ensures
+
+pub narrowed-requires-clause-same : goal.narrowed-requires-clause-same
+unfolding row_of
+narrowed-requires-clause-same c =
+    let t = table_of c.args.system.now in
+    sym (length-map c.new.result.coefficients.items ends_of) ∙ ap (λ r. length r.coefficients) c.new.ensures
+    ∙ length-map-range_with_len (working_at t c.loop-i.i) 0 t.size ∙ sym (c.loop-i.auto.row ∙ c.requires)
 
 pub returns : goal.returns
 returns c =
     let l = c.loop-i in
     let t = table_of c.args.system.now in
-    let n = c.size-n.result in
-    let row = l.row in
-    let was = c.args.row.now in
-    let end : l.i ≡ n = omega arith in
-    let swept : swept_from n 0 t (take n (map ends_of was)) ≡ take n (map ends_of row) = rw end at l.invariant.1 ∙ swept_all t n (take n (map ends_of row)) in
-    record {
-      front = subst (λ (m : ℕ). take m (map ends_of row) ≡ swept_from m 0 t (take m (map ends_of was))) c.size-n.ensures.value (sym swept);
-      rest = subst (λ (m : ℕ). drop m row ≡ drop m was) c.size-n.ensures.value l.invariant.2;
-    }
+    let end : l.i ≡ t.size = omega (arith, c.requires) in
+    sym (l.invariant ∙ ap (λ m. swept_from (t.size - m) m t (map ends_of l.row)) end ∙ swept_all t t.size (map ends_of l.row))

@@ -1,35 +1,35 @@
-use Rattle.std.proofs.Common.{◌≡◌, ◌<◌, ◌≤◌, ◌++◌, length, take, drop, Err, sym, ap, ◌∙◌, arith, rules}
+use Rattle.std.proofs.Common.{◌≡◌, ◌++◌, map, length, drop, replicate, Err, sym, ap, ◌∙◌}
+use Rattle.std.proofs.lemmas.List.{length-map, length-take-le, take_at}
+use Rattle.std.proofs.lemmas.List.FromFn.{length-map-range_with_len}
 use Rattle.std.proofs.lemmas.Result.{err_from_is_err_and}
 use Rattle.systems.specs.Tables.{table_of}
-use Rattle.enclosures.specs.Elimination.{elimination_of}
-use Rattle.enclosures.proofs.Enclosing.{verdict_row, verdict_fault, copied_more, encloses_row, encloses_fault}
+use Rattle.enclosures.specs.Elimination.{eliminated, row_of, elimination_of}
+use Rattle.enclosures.specs.Working.{viewed}
+use Rattle.enclosures.proofs.Enclosing.{verdict_row, verdict_fault, encloses_row, encloses_fault}
 use Rattle.enclosures.proofs.elimination.EliminationEnclosure.enclose.Goals as goal
 
-pub loop-i-preserved : goal.loop-i-preserved
-loop-i-preserved c =
-    let l = c.loop-i in
-    let xs = c.solve_from.new.components in
-    let was = c.args.row.now in
-    let h : l.i < length xs = omega (arith, l.invariant.0) in
-    let k : l.i < length was = search rules in
-    (l.invariant.0, copied_more xs was l.row l.i c.index-components-i.result h k l.invariant.1)
+pub solve-requires : goal.solve-requires
+solve-requires c =
+    let t = table_of c.args.system.now in
+    let many = sym (length-map c.lines.result.items viewed) ∙ ap length c.lines.ensures ∙ length-map-range_with_len (row_of t) 0 t.size in
+    let room = length-take-le c.size-n.result (replicate 6 c.zero-components.result) c.size-n.ensures.few in
+    ap length c.as_mut_slice.ensures.value ∙ many ∙ sym c.size-n.ensures.value ∙ sym room
 
 pub returns : goal.returns
 returns c =
-    let l = c.loop-i in
     let t = table_of c.args.system.now in
     let n = c.size-n.result in
-    let xs = c.solve_from.new.components in
+    let xs = c.solve.new.components in
     let was = c.args.row.now in
-    let end : l.i ≡ n = omega arith in
-    let long : n ≤ length xs = omega (arith, l.invariant.0) in
-    let copied : l.row ≡ take n xs ++ drop n was = rw end at l.invariant.1 in
-    encloses_row (elimination_of t) n xs was l.row long (verdict_row t n c.lines.result c.size-n.ensures.value c.lines.ensures xs c.in_ok-solve_from.ensures) copied
+    let long : length xs ≡ n = c.solve.auto.components ∙ length-take-le n (replicate 6 c.zero-components.result) c.size-n.ensures.few in
+    let copied : c.copy_from_slice.new.self ≡ xs = c.copy_from_slice.ensures.after ∙ take_at xs _ n long in
+    let solved = ap (λ ls. eliminated (length ls) (map viewed ls)) (sym c.as_mut_slice.ensures.value) ∙ c.in_ok-solve.ensures in
+    encloses_row (elimination_of t) xs was _ (verdict_row t c.lines.result.items c.lines.ensures xs solved) (λ k. copied k ++ drop (sym long k) was)
 
-pub returns-in_err-solve_from : goal.returns-in_err-solve_from
-returns-in_err-solve_from c =
+pub returns-in_err-solve : goal.returns-in_err-solve
+returns-in_err-solve c =
     let t = table_of c.args.system.now in
-    let n = c.size-n.result in
     let q = err_from_is_err_and c.from_residual.result c.from_residual.ensures.1 in
-    let stopped = verdict_fault t n c.lines.result c.size-n.ensures.value c.lines.ensures c.in_err-solve_from.field-0.0 c.in_err-solve_from.ensures in
+    let solved = ap (λ ls. eliminated (length ls) (map viewed ls)) (sym c.as_mut_slice.ensures.value) ∙ c.in_err-solve.ensures in
+    let stopped = verdict_fault t c.lines.result.items c.lines.ensures c.in_err-solve.field-0.0 solved in
     encloses_fault (elimination_of t) q.0 c.from_residual.result c.args.row.now (stopped ∙ ap Err (sym q.2)) q.1

@@ -1,37 +1,32 @@
-use Rattle.std.proofs.Common.{◌≡◌, ◌<◌, ◌≤◌, ◌++◌, length, take, drop, set, replicate, neg_ℤ, Err, sym, ap, ◌∙◌, arith, rules}
+use Rattle.std.proofs.Common.{◌≡◌, ◌≤◌, ◌++◌, length, take, drop, replicate, neg_ℤ, Err, sym, ap, ◌∙◌, arith, rules}
 use borrow.Author.Differences.{ints}
-use Rattle.std.proofs.lemmas.List.{get_or-replicate}
+use Rattle.std.proofs.lemmas.List.{length-take-le, take-replicate}
 use Rattle.std.proofs.lemmas.Result.{err_from_is_err_and}
 use Rattle.algebra.specs.Ends.{from_to}
 use Rattle.grains.proofs.Sizes.{back}
 use Rattle.systems.specs.Tables.{table_of}
 use Rattle.enclosures.specs.RowSums.{row_sums_of}
-use Rattle.enclosures.proofs.Enclosing.{copied_more, encloses_row, encloses_fault}
+use Rattle.enclosures.proofs.Enclosing.{encloses_row, encloses_fault}
 use Rattle.enclosures.specs.Greatest.{verdict_row, verdict_fault}
 use Rattle.enclosures.proofs.row_sums.RowSumsEnclosure.enclose.Goals as goal
 
-pub loop-i-preserved : goal.loop-i-preserved
-loop-i-preserved c =
-    let l = c.loop-i in
-    let y = c.around_zero-component.result in
-    let was = c.args.row.now in
-    let six : l.i < 6 = omega arith in
-    let there : l.i < length was = search rules in
-    ap (set l.row l.i) (sym (get_or-replicate 6 l.i y y six)) ∙ copied_more (replicate 6 y) was l.row l.i y six there l.invariant
-
 pub returns : goal.returns
 returns c =
-    let l = c.loop-i in
     let t = table_of c.args.system.now in
+    let n = c.size.result in
     let a = c.in_ok-alpha.alpha in
-    let y = c.around_zero-component.result in
+    let y = c.around_zero.result in
     let was = c.args.row.now in
-    let few : t.size ≤ 6 = omega (arith, c.size-i-end.ensures.value) in
-    let end : l.i ≡ t.size = omega (arith, c.size-i-end.ensures.value) in
+    let few : t.size ≤ 6 = omega (arith, c.size.ensures.value, c.size.ensures.few) in
     let same : back a ≡ a = omega (arith, ints, c.in_ok-alpha.ensures.small) in
-    let made = c.around_zero-component.ensures ∙ ap (λ z. from_to (neg_ℤ z) z) same in
-    let copied : l.row ≡ take t.size (replicate 6 y) ++ drop t.size was = rw end at l.invariant in
-    encloses_row (row_sums_of t) t.size (replicate 6 y) was l.row few (verdict_row t few a y made (sym c.in_ok-alpha.ensures.value)) copied
+    let made = c.around_zero.ensures ∙ ap (λ z. from_to (neg_ℤ z) z) same in
+    let within : n ≤ length was = search rules in
+    let room = length-take-le n was within in
+    let all : c.fill.new.self ≡ replicate (length (take n was)) y = search rules in
+    let filled : c.fill.new.self ≡ take t.size (replicate 6 y) =
+    all ∙ ap (λ k. replicate k y) (room ∙ c.size.ensures.value) ∙ sym (take-replicate t.size 6 y few) in
+    let long : n ≡ length (take t.size (replicate 6 y)) = sym (length-take-le t.size (replicate 6 y) few ∙ sym c.size.ensures.value) in
+    encloses_row (row_sums_of t) (take t.size (replicate 6 y)) was _ (verdict_row t few a y made (sym c.in_ok-alpha.ensures.value)) (λ k. filled k ++ drop (long k) was)
 
 pub returns-in_err-alpha : goal.returns-in_err-alpha
 returns-in_err-alpha c =

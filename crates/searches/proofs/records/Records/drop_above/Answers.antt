@@ -2,7 +2,6 @@ use Rattle.std.proofs.Common.{◌≡◌, filter, sym, ap, ◌∙◌, w64, SFits,
 use lib.Signed.{le_z}
 use Rattle.std.proofs.lemmas.List.Filters.{FiltersInPlace-all, FiltersInPlace-more_no, FiltersInPlace-more_set}
 use Rattle.std.proofs.lemmas.Int.{to_z-of_z}
-use Rattle.searches.specs.States.{items_of}
 use Rattle.outcomes.specs.Waiting.{not_above, kept_below}
 use Rattle.searches.proofs.records.Records.drop_above.Goals as goal
 use Rattle.searches.proofs.records.Records.drop_above.Goals.{then-record-high, else-record-high}
@@ -13,8 +12,8 @@ loop-place-preserved c =
     let fits : SFits w64 x.low = search rules in
     let tests : le_z (to_z w64 (of_z w64 x.low)) (to_z w64 (of_z w64 c.args.high)) ≡ not_above (to_z w64 (of_z w64 c.args.high)) x = ap (λ z. le_z z (to_z w64 (of_z w64 c.args.high))) (to_z-of_z w64 x.low fits) in
     elim c.if-record-high.branch [
-      | then-record-high w ↦ rw (w.self-is, w.count-is) (FiltersInPlace-more_set c.loop-place.invariant (search rules) (sym tests ∙ w.if-record-high.true) c.index-record.ensures)
-      | else-record-high w ↦ rw (w.self-is, w.count-is) (FiltersInPlace-more_no c.loop-place.invariant (search rules) (sym tests ∙ w.if-record-high.false) c.index-record.ensures)
+      | then-record-high w ↦ rw (w.self-inside-is, w.count-is) (FiltersInPlace-more_set c.loop-place.invariant (search rules) (sym tests ∙ w.if-record-high.true) c.index-record.ensures)
+      | else-record-high w ↦ rw (w.self-inside-is, w.count-is) (FiltersInPlace-more_no c.loop-place.invariant (search rules) (sym tests ∙ w.if-record-high.false) c.index-record.ensures)
     ]
 
 pub returns : goal.returns
@@ -22,4 +21,4 @@ unfolding kept_below
 returns c =
     c.truncate.ensures.items
     ∙ FiltersInPlace-all c.loop-place.invariant (search rules)
-    ∙ ap (λ h. filter (not_above h) (items_of c.args.self.now)) (to_z-of_z w64 c.args.high c.ranges.high)
+    ∙ (λ i. filter (not_above (to_z-of_z w64 c.args.high c.ranges.high i)) (c.self.view_is i))

@@ -1,13 +1,14 @@
-use Rattle.std.proofs.Common.{Some, sym, ap, ◌∙◌, arith}
+use Rattle.std.proofs.Common.{◌≡◌, ◌∙◌, ap, sym, rules}
+use Rattle.std.proofs.lemmas.Option.{gets, slice_get-map}
+use Rattle.std.specs.List.{slice_get}
+use Rattle.std.specs.Option.{option_map}
 use Rattle.systems.specs.Entries.{ends_of}
-use Rattle.systems.proofs.Contents.{entry_tabled, no_entry_tabled}
+use Rattle.systems.specs.Tables.{entry_at}
 use Rattle.systems.proofs.draft.Draft.entry.Goals as goal
 
-pub returns-then-place-places : goal.returns-then-place-places
-returns-then-place-places c =
-    let s = c.args.self.now in
-    ap (λ e. Some (ends_of e)) (sym c.index-self-place.is)
-    ∙ sym (entry_tabled s.size s.entries c.args.place c.index-self-place.result s.full s.few (omega arith) c.index-self-place.is)
-
-pub returns-else-place-places : goal.returns-else-place-places
-returns-else-place-places c = let s = c.args.self.now in sym (no_entry_tabled s.size s.entries c.args.place s.full s.few (omega arith))
+pub returns : goal.returns
+unfolding entry_at
+returns c =
+    let xs = c.entries.result.now in
+    let got : c.copied.result ≡ slice_get xs c.args.place = search (rules, gets) in
+    ap (option_map ends_of) got ∙ sym (slice_get-map ends_of xs c.args.place) ∙ ap (λ es. slice_get es c.args.place) c.entries.ensures

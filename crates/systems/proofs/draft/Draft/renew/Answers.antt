@@ -1,13 +1,14 @@
-use Rattle.std.proofs.Common.{Ok, sym, ap, ◌∙◌, rules}
-use Rattle.systems.specs.Tables.{sized}
-use Rattle.systems.proofs.Contents.{blank-tabled, accepted_size}
+use Rattle.std.proofs.Common.{◌≡◌, Ok, Err, sym, ap, ◌∙◌, rules}
+use Rattle.algebra.specs.Chaining.{and_then}
+use Rattle.systems.specs.Tables.{blank, sized}
 use Rattle.systems.proofs.draft.Draft.renew.Goals as goal
 
-pub returns-then-size-lt1 : goal.returns-then-size-lt1
+pub returns-in_err-new : goal.returns-in_err-new
 unfolding sized
-returns-then-size-lt1 c = search rules
+returns-in_err-new c =
+    let refused : sized c.args.size ≡ Err c.in_err-new.field-0.0 = ap (λ n. and_then n (λ m. Ok (blank m))) (sym c.in_err-new.ensures) in
+    search rules
 
 pub returns : goal.returns
-returns c =
-    accepted_size c.args.size c.if-size-lt1.false c.if-size-gt-MOST_ROWS.false
-    ∙ ap Ok (sym (blank-tabled c.args.size c.zero.result c.if-size-gt-MOST_ROWS.false c.zero.ensures))
+unfolding sized
+returns c = ap (λ n. and_then n (λ m. Ok (blank m))) (sym c.in_ok-new.ensures) ∙ ap Ok (sym c.blank.ensures)

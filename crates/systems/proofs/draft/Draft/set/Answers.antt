@@ -17,4 +17,4 @@ returns c =
     let d = c.args.self.now in
     let e = c.in_ok-entry.entry in
     let made : entry_of c.args.low c.args.high ≡ Ok (ends_of e) = search rules in
-    accepted_place d.size d.entries c.args.place c.args.low c.args.high e (omega arith) made
+    accepted_place d.size.rows d.entries c.args.place c.args.low c.args.high e (omega arith) made

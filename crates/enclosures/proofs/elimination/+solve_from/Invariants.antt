@@ -1,5 +1,0 @@
-use Rattle.std.proofs.Common.{◌-◌}
-use Rattle.enclosures.proofs.elimination.+solve_from.Given as goal
-
-abbrev pub decreases-solve_from : goal.decreases-solve_from
-decreases-solve_from l = l.n - l.k

@@ -1,8 +1,0 @@
-use Rattle.std.proofs.Common.{rules}
-use Rattle.hostcall.specs.Calling.{eight_bytes}
-use Rattle.hostcall.proofs.Frames.{bits_machine}
-use Rattle.hostcall.proofs.frame.figure_bytes.Goals as goal
-
-pub returns : goal.returns
-unfolding eight_bytes
-returns c = search (rules, bits_machine)

@@ -1,7 +1,0 @@
-use Rattle.std.proofs.Common.{rules}
-use Rattle.systems.specs.Tables.{tabled}
-use Rattle.systems.proofs.system.System.places.Goals as goal
-
-pub returns : goal.returns
-unfolding tabled
-returns c = search rules

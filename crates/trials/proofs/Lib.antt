@@ -1,0 +1,2 @@
+pub mod Expansion
+pub mod Quotients

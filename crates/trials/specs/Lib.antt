@@ -1,0 +1,3 @@
+pub mod Determinants
+pub mod Draws
+pub mod Parts
