@@ -1,8 +1,8 @@
 -- Order and products in ℤ, and division that rounds.
 use Rattle.std.proofs.Common.{◌≡◌, ℕ, suc, ◌<◌, ℤ, pos, negsuc, ◌+ℤ◌, ◌-ℤ◌, ◌*ℤ◌, neg_ℤ, nat_abs, ◌≤ℤ◌, ◌<ℤ◌, refl, ◌∙◌, arith}
 use lib.IntN.{*ℤ_comm}
-use Rattle.std.specs.Int.{int_min, int_max}
-use Rattle.std.proofs.lemmas.Int.{by_lt_z, clamps}
+use Rattle.std.specs.Int.{int_min, int_max, int_div_euclid}
+use Rattle.std.proofs.lemmas.Int.{by_lt_z, clamps, ints}
 use Rattle.algebra.specs.Ring.{◌⊕◌, ◌⊖◌, ◌⊗◌, minus, lit, ◌⩵◌}
 use Rattle.algebra.specs.Order.{Within, least, greatest, floor_div, ceil_div, floor_quot, ceil_quot}
 use Rattle.algebra.proofs.Ring.{linear, solve, *ℤ-neg_ℤ, neg_ℤ-*ℤ}
@@ -284,3 +284,10 @@ ceil_quot_below_neg z d q h l =
     let a = ceil_quot_high_neg z d h in
     let b = times_anti d (ceil_quot z d) q (omega (arith, linear)) l in
     omega (arith, linear)
+
+-- what `div_euclid` answers at a divisor above 0
+pub floor_euclid : (z d : ℤ) → pos 0 <ℤ d → int_div_euclid z d ≡ floor_quot z d
+unfolding floor_quot floor_div
+floor_euclid (pos a) (pos k) h = refl
+floor_euclid (negsuc a) (pos k) h = refl
+floor_euclid z (negsuc k) h = absurd (omega (arith, ints))

@@ -36,6 +36,7 @@ fn any_width(random: &mut Random, part: Part) -> i32
 pub(crate) fn any_system(random: &mut Random) -> Result<System, Refusal> {
     let mut draft = Draft::new();
     draft.renew(1 + random.up_to(3) as usize)?;
+    // By place: the draft is written while its places are walked.
     for place in 0..draft.places() {
         let part = Part::of(&draft, place);
         let low = any_low(random, part);
@@ -70,6 +71,7 @@ fn any_end(random: &mut Random, entry: Entry) -> i32 {
 pub(crate) fn any_corner(random: &mut Random, system: &System) -> Result<Corner, Refusal> {
     let mut draft = Draft::new();
     draft.renew(system.size())?;
+    // By row and place: the random numbers have to come as they did when the stored output was made.
     for row in 0..4usize {
         let first = row * (system.size() + 1);
         for place in first..first + 5 {

@@ -2,8 +2,7 @@
 #![tactic(auto)]
 
 use enclosures::elimination::Elimination;
-use enclosures::enclosure::Enclosure;
-use enclosures::fault::Fault;
+use enclosures::enclosure::{Enclosure, row_by};
 use enclosures::row_sums::RowSums;
 use enclosures::sweep::Sweep;
 use grains::interval::Interval;
@@ -12,6 +11,7 @@ use systems::refusal::Refusal;
 use systems::system::System;
 use trials::corner::Corner;
 use trials::random::Random;
+use trials::violations::Violations;
 
 mod drawing;
 
@@ -22,7 +22,7 @@ const SYSTEMS: u32 = 400;
 
 const CORNERS: u32 = 12;
 
-/// Why the checks ended early.
+/// Why the checks ended early; those of searches can end for more.
 #[derive(Debug, Drop)]
 enum Failure {
     Refused(Refusal),
@@ -48,16 +48,7 @@ struct Tally {
     refused: u32,
     solutions: u32,
     narrower: u32,
-    violations: u32,
-}
-
-impl Tally {
-    // Counts a violation where a promise is not kept.
-    fn expect(&mut self, kept: bool) {
-        if !kept {
-            self.violations = self.violations.saturating_add(1);
-        }
-    }
+    violations: Violations,
 }
 
 impl fmt::Display for Tally {
@@ -103,23 +94,17 @@ struct Trial<M> {
 }
 
 impl<M: Enclosure> Trial<M> {
-    // The method's row for a system, an interval for each of six components; those that the system does not have are [0, 0].
-    fn row(&self, system: &System) -> Result<[Interval; 6], Fault> {
-        let mut row = [Interval::zero(); 6];
-        self.method.enclose(system, &mut row)?;
-        Ok(row)
-    }
-
     // One accepted system: exact solutions of corners, and rows of narrower systems.
     fn check_accepted(&mut self, system: &System, row: &[Interval]) -> Result<(), Refusal> {
         for _ in 0..CORNERS {
             let corner = any_corner(&mut self.random, system)?;
             self.tally.solutions = self.tally.solutions.saturating_add(1);
-            self.tally.expect(holds(&corner, row));
+            self.tally.violations.expect(holds(&corner, row));
             let nested = narrower(&mut self.random, system)?;
             self.tally.narrower = self.tally.narrower.saturating_add(1);
-            let inner = self.row(&nested);
+            let inner = row_by(&self.method, &nested);
             self.tally
+                .violations
                 .expect(inner.is_ok_and(|inner| within(&inner, row)));
         }
         Ok(())
@@ -128,7 +113,7 @@ impl<M: Enclosure> Trial<M> {
     // The next random system.
     fn check_next(&mut self) -> Result<(), Refusal> {
         let system = any_system(&mut self.random)?;
-        match self.row(&system) {
+        match row_by(&self.method, &system) {
             Ok(row) => {
                 self.tally.accepted = self.tally.accepted.saturating_add(1);
                 self.check_accepted(&system, &row[..system.size()])?;

@@ -2,7 +2,7 @@
 #![tactic(auto)]
 
 use enclosures::elimination::Elimination;
-use enclosures::enclosure::Enclosure;
+use enclosures::enclosure::row_by;
 use enclosures::fault::Fault;
 use enclosures::sweep::Sweep;
 use grains::interval::Interval;
@@ -55,14 +55,10 @@ struct Rows {
 
 impl Rows {
     fn of(system: &System) -> Result<Rows, Fault> {
-        let mut plain = [Interval::zero(); 6];
-        let mut swept = plain;
-        Elimination.enclose(system, &mut plain)?;
-        Sweep { below: Elimination }.enclose(system, &mut swept)?;
         Ok(Rows {
             size: system.size(),
-            plain,
-            swept,
+            plain: row_by(&Elimination, system)?,
+            swept: row_by(&Sweep { below: Elimination }, system)?,
         })
     }
 

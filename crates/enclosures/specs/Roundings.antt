@@ -1,13 +1,13 @@
 -- Quotients that are rounded up. Assumes nothing.
 use Rattle.std.proofs.Common.{arith, ap, ◌∙◌}
-use Rattle.std.specs.Prelude.{◌≡◌, ℤ, pos, negsuc, ◌*ℤ◌, neg_ℤ, ◌≤ℤ◌, ◌<ℤ◌, Some, Option, refl}
+use Rattle.std.specs.Prelude.{◌≡◌, ℤ, pos, ◌*ℤ◌, neg_ℤ, ◌≤ℤ◌, ◌<ℤ◌, Some, Option}
 use Rattle.std.proofs.Math.IntN.{*ℤ-zero}
 use Rattle.std.proofs.lemmas.Int.{ints}
 use Rattle.std.specs.Int.{int_div_euclid}
 use Rattle.std.specs.Option.{option_map}
 use Rattle.algebra.specs.Ends.{from_to}
-use Rattle.algebra.specs.Order.{Within, floor_div, floor_quot, ceil_quot}
-use Rattle.algebra.proofs.Order.{mono_times, cancel-≤, ceil_quot_high, ceil_quot_best}
+use Rattle.algebra.specs.Order.{Within, ceil_quot}
+use Rattle.algebra.proofs.Order.{mono_times, cancel-≤, ceil_quot_high, ceil_quot_best, floor_euclid}
 use Rattle.algebra.proofs.Ring.{linear}
 use Rattle.grains.specs.declared.interval.Interval.{Interval}
 use Rattle.grains.specs.Arithmetic.{ends_of, in_span, interval_of}
@@ -28,13 +28,6 @@ quotient_narrows z z' d d' n h k l =
     let up = ceil_quot_high z d k in
     let wider = mono_times (ceil_quot z d) d d' (quotient_nonneg z d n k) l in
     ceil_quot_best z' d' (ceil_quot z d) (omega (arith, linear)) (omega (arith, linear))
-
--- what `div_euclid` answers at a divisor above 0
-floor_euclid : (z d : ℤ) → pos 0 <ℤ d → int_div_euclid z d ≡ floor_quot z d
-unfolding floor_quot floor_div
-floor_euclid (pos a) (pos k) h = refl
-floor_euclid (negsuc a) (pos k) h = refl
-floor_euclid z (negsuc k) h = absurd (omega (arith, ints))
 
 pub ceil_euclid : (z d : ℤ) → pos 0 <ℤ d → neg_ℤ (int_div_euclid (neg_ℤ z) d) ≡ ceil_quot z d
 unfolding ceil_quot

@@ -1,6 +1,6 @@
 -- What a method answers: a fault, or a row with an interval for each component.
-use Rattle.std.specs.Prelude.{◌≡◌, List, ◌++◌, map, length, drop, Ok, Err, Result}
-use Rattle.algebra.specs.Ends.{Ends}
+use Rattle.std.specs.Prelude.{◌≡◌, List, ◌++◌, map, length, drop, replicate, pos, Ok, Err, Result}
+use Rattle.algebra.specs.Ends.{Ends, from_to}
 use Rattle.grains.specs.declared.interval.ArithmeticError.{ArithmeticError}
 use Rattle.grains.specs.declared.interval.ArithmeticError.TheVariants.{DivisorContainsZero, OutsideSpan}
 use Rattle.grains.specs.declared.interval.Interval.{Interval}
@@ -24,3 +24,8 @@ verdict_of (Err e) = Err (fault_of e)
 abbrev pub Encloses : Result (Unit {0}) Fault → List Interval → List Interval → Verdict → Type 0
 Encloses r was is (Ok row) = (r ≡ Ok tt) × (map ends_of is ≡ row ++ drop (length row) (map ends_of was))
 Encloses r was is (Err fault) = (r ≡ Err fault) × (is ≡ was)
+
+-- six intervals, the row of a verdict and [0, 0] in the places behind it; or its fault
+abbrev pub six_of : Verdict → Verdict
+six_of (Ok row) = Ok (row ++ drop (length row) (replicate 6 (from_to (pos 0) (pos 0))))
+six_of (Err fault) = Err fault

@@ -12,6 +12,7 @@ ghost use Rattle.enclosures.specs.Bounds.{solvable_from, agreed_from, enclosed_f
 ghost use Rattle.enclosures.specs.PointRows.{elimination_bounds};
 
 use crate::enclosure::Enclosure;
+use crate::equation::Equation;
 use crate::fault::Fault;
 use crate::line::Line;
 use crate::working::{less_multiple, less_products};
@@ -28,6 +29,7 @@ fn reduced_coefficients(
     requires { length line.now ≤ 6 }
     ensures { result_map_both (λ cs. map ends_of cs.items) (λ e. e) result ≡ each_with (less_multiple (ends_of m)) (map ends_of line.now) (map ends_of pivot.now) }
 {
+    // A loop: the steps may be refused, and the room of six is known here.
     let mut coefficients = ArrayVec::new();
     for (old, by) in line.iter().zip(pivot) {
         coefficients.push(less_multiple(m, *old, *by)?);
@@ -91,9 +93,10 @@ fn solve(lines: &mut [Line], components: &mut [Interval]) -> Result<(), Arithmet
 fn lines(system: &System) -> ArrayVec<Line, 6>
     ensures { map viewed result.items ≡ map (row_of (table_of system.now)) (range_with_len 0 (table_of system.now).size) }
 {
+    // A loop: `collect` and `extend` may answer that there is no room, which the caller of `lines` could only drop.
     let mut lines = ArrayVec::new();
-    for i in 0..system.size() {
-        lines.push(Line::new(system, i));
+    for row in 0..system.size() {
+        lines.push(Line::new(&Equation { system, row }));
     }
     lines
 }

@@ -3,6 +3,7 @@
 
 pub mod elimination;
 pub mod enclosure;
+mod equation;
 pub mod fault;
 mod line;
 pub mod row_sums;

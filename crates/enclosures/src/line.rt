@@ -1,14 +1,14 @@
 //! The working rows of elimination.
-ghost use Rattle.std.specs.Prelude.{◌≡◌, ◌<◌, ◌≤◌, map, length, drop};
+ghost use Rattle.std.specs.Prelude.{◌≡◌, ◌≤◌, map, length, drop};
 ghost use Rattle.grains.specs.Arithmetic.{ends_of};
 ghost use Rattle.systems.specs.Tables.{table_of};
 ghost use Rattle.enclosures.specs.Elimination.{lead, row_of};
 ghost use Rattle.enclosures.specs.Working.{viewed};
 
+use crate::equation::Equation;
 use crate::scaling::in_grains;
 use arrayvec::ArrayVec;
 use grains::interval::Interval;
-use systems::system::System;
 
 /// A row of working intervals: the coefficients of the unknowns that are left, and the right-hand side.
 #[derive(Drop)]
@@ -28,20 +28,18 @@ impl Default for Line {
 }
 
 impl Line {
-    // Row i of a system.
-    pub fn new(system: &System, i: usize) -> Line
-        requires { i < (table_of system.now).size }
-        ensures { viewed result ≡ row_of (table_of system.now) i }
+    // A row of a system in grains.
+    pub fn new(equation: &Equation<'_>) -> Line
+        ensures { viewed result ≡ row_of (table_of equation.now.system.now) equation.now.row }
     {
-        let n = system.size();
-        let start = i * (n + 1);
+        // A loop: a push into room of six cannot fail, as collecting could.
         let mut coefficients = ArrayVec::new();
-        for entry in &system.entries()[start..start + n] {
+        for entry in equation.coefficients() {
             coefficients.push(in_grains(*entry));
         }
         Line {
             coefficients,
-            right: in_grains(system.entry_or_zero(start + n)),
+            right: in_grains(equation.right()),
         }
     }
 

@@ -1,15 +1,17 @@
 //! Row sums: one bound for all components, from how far each diagonal entry outweighs the rest of its row.
-ghost use Rattle.std.specs.Prelude.{◌≡◌, ◌<◌, pos, ◌*ℤ◌, neg_ℤ, IfOk};
+ghost use Rattle.std.specs.Prelude.{◌≡◌, pos, neg_ℤ};
+ghost use Rattle.std.specs.Result.{result_map_both};
 ghost use Rattle.algebra.specs.Ends.{from_to};
-ghost use Rattle.algebra.specs.Order.{Within, ceil_quot};
-ghost use Rattle.grains.specs.Arithmetic.{ends_of, contains_zero};
+ghost use Rattle.algebra.specs.Order.{Within};
+ghost use Rattle.grains.specs.Arithmetic.{ends_of};
 ghost use Rattle.systems.specs.Entries.{ends_of as entry_ends};
 ghost use Rattle.systems.specs.Tables.{table_of};
-ghost use Rattle.enclosures.specs.RowSums.{absolute as absolute_of, magnitude as magnitude_of, mignitude as mignitude_of, besides as besides_of, excess_of, bound_of, greatest_bound, row_sums_of};
+ghost use Rattle.enclosures.specs.RowSums.{absolute as absolute_of, magnitude as magnitude_of, mignitude as mignitude_of, excess_of, bound_of, greatest_bound, row_sums_of};
 ghost use Rattle.enclosures.specs.RowSumsLemmas.{row_sums_shaped, row_sums_bounds, row_sums_narrow};
 ghost use Rattle.enclosures.specs.Bounds.{solvable_from, agreed_from, enclosed_from};
 
 use crate::enclosure::Enclosure;
+use crate::equation::Equation;
 use crate::fault::Fault;
 use grains::interval::{GRAINS, Interval};
 use systems::entry::Entry;
@@ -26,6 +28,7 @@ fn absolute(end: i32) -> i64
 }
 
 // The greatest absolute value in an entry.
+#[tactic(auto, unfolding(crate::specs::RowSums::magnitude))]
 fn magnitude(entry: Entry) -> i64
     ensures value { result ≡ magnitude_of (entry_ends entry) }
     ensures small { Within (pos 0) (pos 65536) result }
@@ -33,97 +36,71 @@ fn magnitude(entry: Entry) -> i64
     absolute(entry.low()).max(absolute(entry.high()))
 }
 
-// Whether 0 lies in an entry, ends included. Like the absolute values here it speaks of entries as they stand, and an interval's own
-// method of figures, so that one for both would only add a change of scale.
-#[tactic(auto, unfolding(grains::specs::Arithmetic::contains_zero))]
-fn contains_zero(entry: Entry) -> bool
-    ensures { result ≡ contains_zero (entry_ends entry) }
-{
-    entry.low() <= 0 && 0 <= entry.high()
-}
-
 // The least absolute value in an entry.
 fn mignitude(entry: Entry) -> i64
     ensures value { result ≡ mignitude_of (entry_ends entry) }
     ensures small { Within (pos 0) (pos 65536) result }
 {
-    if contains_zero(entry) {
-        return 0;
-    }
-    absolute(entry.low()).min(absolute(entry.high()))
+    i64::from(entry.low()).max(-i64::from(entry.high())).max(0)
 }
 
-// The magnitude of entry j of row i, unless that is the diagonal entry.
-fn besides(system: &System, i: usize, j: usize) -> i64
-    requires row { i < 6 }
-    requires column { j < 6 }
-    ensures value { result ≡ besides_of (table_of system.now) i j }
-    ensures small { Within (pos 0) (pos 65536) result }
-{
-    let size = magnitude(system.entry_or_zero(i * (system.size() + 1) + j));
-    if j == i { 0 } else { size }
-}
-
-// The mignitude of the diagonal entry of row i, less the magnitudes of the row's other matrix entries.
-fn excess(system: &System, i: usize) -> i64
-    requires { i < 6 }
-    ensures value { result ≡ excess_of (table_of system.now) i }
+// The mignitude of the diagonal entry, less the magnitudes of the row's other matrix entries.
+fn excess(equation: &Equation<'_>) -> i64
+    ensures value { result ≡ excess_of (table_of equation.now.system.now) equation.now.row }
     ensures small { Within (neg_ℤ (pos 393216)) (pos 65536) result }
 {
-    let n = system.size();
-    let mut g = mignitude(system.entry_or_zero(i * (n + 1) + i));
-    // By number: the diagonal entry is told by j, and a chain has no bound on a sum of signed numbers.
-    for j in 0..n {
-        g -= besides(system, i, j);
+    let mut g = mignitude(equation.diagonal());
+    // A loop: what keeps a sum of signed numbers from overflowing is an invariant, and a chain has none.
+    for (column, entry) in equation.coefficients().iter().enumerate() {
+        if column != equation.row {
+            g -= magnitude(*entry);
+        }
     }
     g
 }
 
-// `size * GRAINS / g`, rounded up to a whole grain.
-// Written here and not taken from the intervals: theirs rounds quotients of figures, and as a public call it would ask for its divisor.
-fn over(size: i64, g: i64) -> i64
-    requires size { Within (pos 0) (pos 65536) size }
-    requires divisor { Within (pos 1) (pos 65536) g }
-    ensures value { result ≡ ceil_quot (size *ℤ pos 16384) g }
-    ensures small { Within (pos 0) (pos 1073741824) result }
-{
-    -(-(size * GRAINS)).div_euclid(g)
+// How far from 0 a component can lie at most, in grains.
+#[derive(Clone, Copy, PartialEq, Eq, PartialOrd, Ord)]
+struct Radius {
+    grains: i64,
+    ghost within: { Within (pos 0) (pos 1073741824) grains },
 }
 
-// What row i bounds.
-fn bound(system: &System, i: usize) -> Result<i64, Fault>
-    requires { i < 6 }
-    ensures value { result ≡ bound_of (table_of system.now) i }
-    ensures small { IfOk result (Within (pos 0) (pos 1073741824)) }
+impl Radius {
+    // All figures up to the radius, on both sides of 0.
+    fn around_zero(self) -> Interval
+        ensures { ends_of result ≡ from_to (neg_ℤ self.grains) self.grains }
+    {
+        Interval::new(-self.grains, self.grains).unwrap()
+    }
+}
+
+// What a row bounds: the magnitude of the right side over the excess, rounded up to a whole grain. The division stands here and is not taken
+// from the intervals: theirs are quotients of figures, and as a public call it would ask for its divisor.
+fn bound(equation: &Equation<'_>) -> Result<Radius, Fault>
+    ensures { result_map_both (λ r. r.grains) (λ e. e) result ≡ bound_of (table_of equation.now.system.now) equation.now.row }
 {
-    let g = excess(system, i);
+    let g = excess(equation);
     if g < LEAST {
         return Err(Fault { number: 8 });
     }
-    let n = system.size();
-    let size = magnitude(system.entry_or_zero(i * (n + 1) + n));
-    Ok(over(size, g))
+    let size = magnitude(equation.right());
+    Ok(Radius {
+        grains: -(-(size * GRAINS)).div_euclid(g),
+    })
 }
 
 // The greatest of the rows' bounds.
-fn greatest_bound(system: &System) -> Result<i64, Fault>
-    ensures value { result ≡ greatest_bound (table_of system.now) }
-    ensures small { IfOk result (Within (pos 0) (pos 1073741824)) }
+fn greatest_bound(system: &System) -> Result<Radius, Fault>
+    ensures { result_map_both (λ r. r.grains) (λ e. e) result ≡ greatest_bound (table_of system.now) }
 {
-    let mut alpha: i64 = 0;
-    for i in 0..system.size() {
-        let next = bound(system, i)?;
+    // By number, which is what makes an equation of a system.
+    let mut alpha = Radius { grains: 0 };
+    for row in 0..system.size() {
+        let next = bound(&Equation { system, row })?;
         alpha = alpha.max(next);
     }
     Ok(alpha)
-}
-
-// All figures up to `alpha`, on both sides of 0.
-fn around_zero(alpha: i64) -> Interval
-    requires { Within (pos 0) (pos 1073741824) alpha }
-    ensures { ends_of result ≡ from_to (neg_ℤ alpha) alpha }
-{
-    Interval::new(-alpha, alpha).unwrap()
 }
 
 /// Row sums.
@@ -147,7 +124,7 @@ impl Enclosure for RowSums {
     /// whose diagonal entry does not outweigh the others, changes none of the six.
     fn enclose(&self, system: &System, row: &mut [Interval; 6]) -> Result<(), Fault> {
         let alpha = greatest_bound(system)?;
-        row[..system.size()].fill(around_zero(alpha));
+        row[..system.size()].fill(alpha.around_zero());
         Ok(())
     }
 }

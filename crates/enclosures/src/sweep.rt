@@ -8,6 +8,7 @@ ghost use Rattle.enclosures.specs.Working.{viewed};
 ghost use Rattle.enclosures.specs.SweepLaws.{sweep_shaped, sweep_solvable, sweep_agreed, sweep_enclosed, sweep_narrows};
 
 use crate::enclosure::Enclosure;
+use crate::equation::Equation;
 use crate::fault::Fault;
 use crate::line::Line;
 use crate::working::less_products;
@@ -46,7 +47,7 @@ fn narrow_all(system: &System, row: &mut [Interval])
 {
     // By index: each step reads the whole row and writes one place of it.
     for i in 0..row.len() {
-        row[i] = narrowed(&Line::new(system, i), row, i);
+        row[i] = narrowed(&Line::new(&Equation { system, row: i }), row, i);
     }
 }
 

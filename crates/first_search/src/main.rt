@@ -38,7 +38,7 @@ impl fmt::Display for Step {
                     "low {low}, high {high}, {waiting} waiting, {splits} splits, {settled}"
                 )
             }
-            Err(refusal) => write!(f, "refused {}", refusal.number()),
+            Err(refusal) => write!(f, "{refusal}"),
         }
     }
 }

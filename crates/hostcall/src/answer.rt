@@ -42,6 +42,7 @@ impl CallRefusal {
     pub(crate) fn number(self) -> u32
         ensures { result ≡ call_number self }
     {
+        // The numbers are the host's interface.
         match self {
             CallRefusal::Job(refusal) => refusal.number(),
             CallRefusal::ShortBuffer => 14,

@@ -1,4 +1,5 @@
 pub mod Bytes
+pub mod Drops
 pub mod Progress
 pub mod ReadBack
 pub mod Records

@@ -24,12 +24,12 @@ enum Record {
     End,
 }
 
-// A walk over the bytes of a job: where it stands, and the place of the entry before.
+// A walk over the bytes of a job: where it stands, and the place of the entry before. By a rule of this project a reader is the whole slice with
+// its position and that place, and the stage is matched with the mark; so there is no slice of the rest, and no place in the stage.
 #[derive(Drop)]
 struct Reader<'a> {
     job: &'a [u8],
     at: usize,
-    // Beside the stage, and not in it: one guard asks for it, and the stage stands alone in each pattern.
     previous: Option<u8>,
     stage: Stage,
 }
@@ -74,6 +74,7 @@ fn enter(draft: &mut Draft, place: u8, low: i32, high: i32) -> Result<(), Refusa
 impl Reader<'_> {
     // Which record stands here, by its mark: refused where none does, where the mark is not allowed here, where the record is
     // cut short, where bytes follow the end mark, and where an entry's place is not in the system or not above the one before.
+    #[tactic(auto, using(crate::proofs::Drops::left_long, crate::proofs::Drops::left_read), unfolding(crate::specs::Reading::record_at, crate::specs::Reading::marked, crate::specs::Reading::byte_at))]
     fn next(&self, places: usize) -> Result<Record, Refusal>
         requires { self.now.at ≤ length self.now.job.now }
         ensures { result ≡ record_at self.now.stage places self.now.previous (drop self.now.at self.now.job.now) }

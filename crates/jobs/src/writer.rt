@@ -9,7 +9,8 @@ use systems::entry::Entry;
 use systems::refusal::Refusal;
 use systems::system::System;
 
-// A walk over the buffer: where it stands.
+// A walk over the buffer: where it stands. It has a position, as the reader has; a slice that gets shorter would have to be taken out of the writer
+// and put back at each record. That there is room is asked by each call of what it writes, and no type says it.
 #[derive(Drop)]
 struct Writer<'a> {
     buffer: &'a mut [u8],

@@ -61,6 +61,7 @@ fn help(rt: &HostRuntime) -> io::Result<()> {
 // A line for each component.
 fn print_lines(rt: &HostRuntime, system: System) -> io::Result<()> {
     println!(rt; "comp low high waiting splits stop")?;
+    // By number: it is what is searched for, and printed.
     for component in 1..=system.size() {
         let line = find_line(rt.alloc(), system, component)?;
         println!(rt; "{line}")?;

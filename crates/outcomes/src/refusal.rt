@@ -38,6 +38,7 @@ impl SearchRefusal {
     pub fn number(self) -> u32
         ensures { result ≡ number_of self }
     {
+        // A match, where other refusals have their numbers as values: that of `ByMethod` is the fault's.
         match self {
             SearchRefusal::ComponentOutOfRange => 5,
             SearchRefusal::NotStarted => 21,

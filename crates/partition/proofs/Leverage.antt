@@ -1,7 +1,6 @@
 -- What a unit of width weighs, in a row that may be too short. Assumes nothing.
-use Rattle.std.proofs.Common.{◌≡◌, ℕ, ◌+◌, ◌%◌, ◌<◌, ◌≤◌, List, map, length, get_or, pos, refl, ap, ◌∙◌, lt-ltb}
-use lib.ListN.{length-map}
-use Rattle.std.proofs.lemmas.List.{get_or-map, get_or_past}
+use Rattle.std.proofs.Common.{◌≡◌, ℕ, ◌+◌, ◌%◌, ◌<◌, List, map, get_or, pos, sym, refl, ap, ◌∙◌, lt-ltb}
+use Rattle.std.proofs.Math.ListN.{get_or-map}
 use Rattle.algebra.specs.Ends.{from_to}
 use Rattle.grains.specs.Arithmetic.{ends_of}
 use Rattle.grains.specs.declared.interval.Interval.{Interval}
@@ -13,9 +12,5 @@ module _ (n k : ℕ) (row : List Interval) (below : k % (n + 1) < n) where
   of_component : leverage n (map ends_of row) k ≡ magnitude (component_of (map ends_of row) (k % (n + 1)))
   of_component = rw (lt-ltb (k % (n + 1)) n below) refl
 
-  pub leverage_there : (x : Interval) → k % (n + 1) < length row → leverage n (map ends_of row) k ≡ magnitude (ends_of (get_or row (k % (n + 1)) x))
-  leverage_there x h = of_component ∙ ap magnitude (get_or-map ends_of row (k % (n + 1)) x (from_to (pos 0) (pos 0)) h)
-
-  pub leverage_missing : length row ≤ k % (n + 1) → leverage n (map ends_of row) k ≡ pos 0
-  unfolding magnitude
-  leverage_missing h = of_component ∙ ap magnitude (get_or_past (map ends_of row) (k % (n + 1)) (from_to (pos 0) (pos 0)) (simp length-map h))
+  pub leverage_read : (none : Interval) → ends_of none ≡ from_to (pos 0) (pos 0) → leverage n (map ends_of row) k ≡ magnitude (ends_of (get_or row (k % (n + 1)) none))
+  leverage_read none zero = of_component ∙ ap magnitude (ap (get_or (map ends_of row) (k % (n + 1))) (sym zero) ∙ get_or-map ends_of row (k % (n + 1)) none)

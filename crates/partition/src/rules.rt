@@ -24,7 +24,9 @@ fn width_of(entry: Entry) -> i64
     i64::from(entry.high()) - i64::from(entry.low())
 }
 
-// The greatest absolute value in an interval.
+// The greatest absolute value in an interval. That of an entry, in row sums, is as short; one for both would speak of two plain numbers and
+// owe their bounds at each call.
+#[tactic(auto, unfolding(enclosures::specs::RowSums::magnitude))]
 fn magnitude_of(interval: Interval) -> i64
     ensures value { result ≡ magnitude (ends_of interval) }
     ensures bound { unsigned_abs result ≤ 2 ^ 31 }
@@ -42,13 +44,11 @@ fn leverage_of(size: usize, row: &[Interval], place: usize) -> i64
     if column >= size {
         return GRAINS;
     }
-    match row.get(column) {
-        Some(interval) => magnitude_of(*interval),
-        None => 0,
-    }
+    let interval = row.get(column).copied().unwrap_or(Interval::zero());
+    magnitude_of(interval)
 }
 
-// A way to weigh the entries of a system.
+// A way to weigh the entries of a system, which it gets with the row as `choose` does.
 trait Weigh {
     ghost weight: { Self → Table → List Ends → ℕ → ℤ };
 
@@ -86,6 +86,8 @@ fn scan<W: Weigh>(weigher: &W, system: &System, row: &[Interval]) -> Option<usiz
     best.map(|found| found.place)
 }
 
+// The two rules are alike but for their definition and weight. One impl over both would answer by the scan, and not by the definitions that the
+// laws unfold and the theorem names.
 /// The entry of the greatest width; among equals the one at the lowest place.
 #[derive(Clone, Copy)]
 pub struct Widest;

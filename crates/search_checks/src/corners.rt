@@ -7,11 +7,9 @@ use systems::system::System;
 
 /// All corners of a system.
 pub(crate) fn corners_of(heap: Global, system: &System) -> Result<Vec<System>, Failure> {
-    let mut corners = Vec::new(heap);
-    for number in 0..count(system) {
-        corners.push(thin(system, number)?)?;
-    }
-    Ok(corners)
+    (0..count(system))
+        .map(|number| thin(system, number).map_err(Failure::from))
+        .try_collect(heap)
 }
 
 // How many corners a system has.
@@ -25,8 +23,7 @@ fn thin(system: &System, number: u32) -> Result<System, Refusal> {
     let mut draft = Draft::new();
     draft.renew(system.size())?;
     let mut bits = number;
-    for place in 0..system.places() {
-        let entry = system.entry_or_zero(place);
+    for (place, entry) in system.entries().iter().enumerate() {
         let mut value = entry.low();
         if entry.is_wide() {
             if bits % 2 == 1 {

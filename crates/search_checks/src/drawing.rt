@@ -12,6 +12,7 @@ pub(crate) fn system_of_few_corners(random: &mut Random) -> Result<System, Refus
     let mut draft = Draft::new();
     draft.renew(1 + random.up_to(3) as usize)?;
     let sparse = random.up_to(1) == 0;
+    // By place: the draft is written while its places are walked.
     for place in 0..draft.places() {
         let value = any_number(random, Part::of(&draft, place), sparse);
         draft.set(place, value, value)?;

@@ -39,7 +39,7 @@ fn check<M: Enclosure + Copy, R: Rule + Copy>(
         let system = system_of_few_corners(&mut random)?;
         let mut watched = Watched::new(heap, system, method, rule)?;
         for turn in 0..CALLS {
-            let call = random_call(&mut random, system.size(), turn);
+            let call = random_call(&mut random, &system, turn);
             watched.call(call, &mut tally);
         }
         watched.close(&mut tally);

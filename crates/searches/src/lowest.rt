@@ -39,6 +39,7 @@ impl From<SearchRefusal> for NoFigure {
 
 /// A search for a component, counted from 1, that is started and run with a budget. The low figure of its reading is one that the
 /// component is never below: not in any rational solution of any point system inside the system.
+// Component and budget are two plain numbers, as the call for C gets them.
 #[tactic(auto, unfolding(crate::specs::Lowest::solved_of))]
 pub fn solve<M: Enclosure + Drop, R: Rule + Drop>(
     heap: Global,

@@ -6,6 +6,8 @@ mod methods;
 /// The greatest end of an entry; the least is `-MOST`.
 pub const MOST: i32 = 65536;
 
+// No type in common with an interval of figures: an entry's ends have 32 bits, as in a job, a wrong pair of ends has a number, and all
+// arithmetic is on figures; two ends are all that one type for both would hold.
 /// A number of a system, known to lie between two whole numbers, its ends.
 #[derive(Clone, Copy, PartialEq, Eq, Debug)]
 pub struct Entry {

@@ -1,3 +1,4 @@
+pub mod Counts
 pub mod Determinants
 pub mod Draws
 pub mod Parts

@@ -7,3 +7,4 @@ pub mod part;
 pub mod random;
 #[cfg(test)]
 mod tests;
+pub mod violations;

@@ -1,6 +1,7 @@
 use crate::corner::Corner;
 use crate::part::Part;
 use crate::random::Random;
+use crate::violations::Violations;
 use std::test::Fail;
 use systems::draft::Draft;
 use systems::refusal::Refusal;
@@ -69,4 +70,18 @@ fn singular(rt: HostRuntime) -> Result<(), Fail> {
     let corner = Corner::at_low(thin(2, &[1, 2, 3, 2, 4, 6])?);
     assert!(rt; corner.component(0).is_none());
     Ok(())
+}
+
+#[test]
+fn violations(rt: HostRuntime) {
+    let mut found = Violations::default();
+    found.expect(true);
+    assert_eq!(rt; found, Violations::default());
+    found.expect(false);
+    assert_ne!(rt; found, Violations::default());
+    let mut again = found;
+    again.expect(true);
+    assert_eq!(rt; again, found);
+    again.expect(false);
+    assert_ne!(rt; again, found);
 }

@@ -57,6 +57,7 @@ fn multiply(a: i64, b: i64) -> i64
     a * b
 }
 
+// Two functions, as there are two of `min` and `max`: one for both would negate four numbers and the answer.
 #[tactic(auto, unfolding(crate::specs::Arithmetic::least_of))]
 fn least_of(values: [i64; 4]) -> i64
     ensures { result ≡ least_of (slice_index_or values 0 (pos 0)) (slice_index_or values 1 (pos 0)) (slice_index_or values 2 (pos 0)) (slice_index_or values 3 (pos 0)) }

@@ -1,5 +1,6 @@
 //! What was found for one method and one rule.
 use std::fmt;
+use trials::violations::Violations;
 
 #[derive(Clone, Copy, Default)]
 pub(crate) struct Tally {
@@ -9,16 +10,7 @@ pub(crate) struct Tally {
     pub splits: u64,
     pub settled: u32,
     pub corners: u32,
-    violations: u32,
-}
-
-impl Tally {
-    /// Counts a violation where a promise is not kept.
-    pub(crate) fn expect(&mut self, kept: bool) {
-        if !kept {
-            self.violations = self.violations.saturating_add(1);
-        }
-    }
+    pub violations: Violations,
 }
 
 impl fmt::Display for Tally {

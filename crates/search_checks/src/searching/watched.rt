@@ -3,8 +3,7 @@ use crate::corners::corners_of;
 use crate::failure::Failure;
 use crate::searching::calls::Call;
 use crate::searching::tally::Tally;
-use enclosures::enclosure::Enclosure;
-use enclosures::fault::Fault;
+use enclosures::enclosure::{Enclosure, row_by};
 use grains::interval::Interval;
 use outcomes::reading::{Reading, Report, Stop};
 use outcomes::refusal::SearchRefusal;
@@ -14,6 +13,7 @@ use std::alloc::Global;
 use systems::system::System;
 use trials::corner::{Corner, Quotient};
 
+// The tally is handed to each method: with a reference to it as a field, the borrow checker does not cover `call` and `check_corners`.
 /// A search, with what the calls so far have shown of it.
 #[derive(Drop)]
 pub(crate) struct Watched<M, R> {
@@ -71,16 +71,9 @@ impl<M: Enclosure + Copy, R: Rule + Copy> Watched<M, R> {
         })
     }
 
-    // The method's row for a system.
-    fn row(&self, system: &System) -> Result<[Interval; 6], Fault> {
-        let mut row = [Interval::zero(); 6];
-        self.method.enclose(system, &mut row)?;
-        Ok(row)
-    }
-
     // The method's interval for the component of a system.
     fn interval_of(&self, system: &System) -> Option<Interval> {
-        let row = self.row(system).ok()?;
+        let row = row_by(&self.method, system).ok()?;
         row.get(self.component).copied()
     }
 
@@ -97,7 +90,7 @@ impl<M: Enclosure + Copy, R: Rule + Copy> Watched<M, R> {
         if component < 1 || self.system.size() < component {
             return Err(SearchRefusal::ComponentOutOfRange);
         }
-        self.row(&self.system)?;
+        row_by(&self.method, &self.system)?;
         Ok(())
     }
 
@@ -113,7 +106,7 @@ impl<M: Enclosure + Copy, R: Rule + Copy> Watched<M, R> {
 
     fn run(&mut self, budget: u32, tally: &mut Tally) -> Result<Answer, SearchRefusal> {
         let report = self.search.run(budget)?;
-        tally.expect(fits(report, budget));
+        tally.violations.expect(fits(report, budget));
         Ok(Answer::from(report))
     }
 
@@ -131,7 +124,9 @@ impl<M: Enclosure + Copy, R: Rule + Copy> Watched<M, R> {
     fn reading(&self, tally: &mut Tally) -> Option<Reading> {
         let reading = self.search.reading();
         if let Err(refusal) = reading {
-            tally.expect(refusal == SearchRefusal::NotStarted);
+            tally
+                .violations
+                .expect(refusal == SearchRefusal::NotStarted);
         }
         reading.ok()
     }
@@ -144,15 +139,17 @@ impl<M: Enclosure + Copy, R: Rule + Copy> Watched<M, R> {
         let after = self.reading(tally);
         match (answer, due) {
             (Ok(answer), Ok(())) => {
-                tally.expect(after == Some(answer.reading));
+                tally.violations.expect(after == Some(answer.reading));
                 self.splits = self.splits.saturating_add(u64::from(answer.made));
                 if let Call::Start(component) = call {
                     self.component = component.saturating_sub(1);
-                    tally.expect(self.is_first(answer.reading));
+                    tally.violations.expect(self.is_first(answer.reading));
                 }
             }
-            (Err(refusal), Err(due)) => tally.expect(refusal == due && after == self.last),
-            _ => tally.expect(false),
+            (Err(refusal), Err(due)) => tally
+                .violations
+                .expect(refusal == due && after == self.last),
+            _ => tally.violations.expect(false),
         }
         if let Some(reading) = after {
             self.check_reading(reading, tally);
@@ -170,10 +167,12 @@ impl<M: Enclosure + Copy, R: Rule + Copy> Watched<M, R> {
         self.check_counts(reading, tally);
         self.check_corners(reading, tally);
         if let Some(before) = self.last {
-            tally.expect(before.low <= reading.low && reading.high <= before.high);
+            tally
+                .violations
+                .expect(before.low <= reading.low && reading.high <= before.high);
         }
         if reading.settled {
-            tally.expect(self.ends_at_corner(reading));
+            tally.violations.expect(self.ends_at_corner(reading));
         }
     }
 
@@ -181,10 +180,12 @@ impl<M: Enclosure + Copy, R: Rule + Copy> Watched<M, R> {
     // figures are in order.
     fn check_counts(&self, reading: Reading, tally: &mut Tally) {
         let most = (self.corners.len() as u64).saturating_sub(1);
-        tally.expect(reading.splits == self.splits);
-        tally.expect(reading.splits < most || reading.splits == most && reading.settled);
-        tally.expect(1 <= reading.waiting && reading.waiting <= 512);
-        tally.expect(reading.low <= reading.high);
+        tally.violations.expect(reading.splits == self.splits);
+        tally.violations.expect(reading.splits < most || reading.splits == most && reading.settled);
+        tally
+            .violations
+            .expect(1 <= reading.waiting && reading.waiting <= 512);
+        tally.violations.expect(reading.low <= reading.high);
     }
 
     // No corner's component is below the low figure, and some corner's is not above the high figure.
@@ -192,9 +193,11 @@ impl<M: Enclosure + Copy, R: Rule + Copy> Watched<M, R> {
         for corner in &self.corners {
             tally.corners = tally.corners.saturating_add(1);
             let exact = self.exact_at(corner);
-            tally.expect(exact.is_some_and(|exact| exact.is_at_least(reading.low)));
+            tally
+                .violations
+                .expect(exact.is_some_and(|exact| exact.is_at_least(reading.low)));
         }
-        tally.expect(
+        tally.violations.expect(
             self.corners.iter().any(|corner| {
                 self.exact_at(corner)
                     .is_some_and(|exact| exact.is_at_most(reading.high))

@@ -74,7 +74,7 @@ impl Records {
     pub(crate) fn drop_above(&mut self, high: i64)
         ensures { self.new ≡ kept_below high self.old }
     {
-        // A loop, not `retain`: by a rule of the search each low figure is compared with the high figure one by one, in a fixed table.
+        // By a rule of this project dropping is a loop over the waiting records that compares each with the high figure, so no `retain`.
         let mut count = 0;
         for place in 0..self.items.len() {
             let record = self.items[place];

@@ -8,7 +8,7 @@ ghost use Rattle.outcomes.specs.Waiting.{leading};
 
 use crate::records::Records;
 use crate::search::{Halves, Progress, Ran, Search};
-use enclosures::enclosure::Enclosure;
+use enclosures::enclosure::{Enclosure, row_by};
 use grains::interval::Interval;
 use outcomes::reading::{Reading, Report, Stop};
 use outcomes::record::{Entered, Record};
@@ -31,7 +31,8 @@ fn stop_at(settled: bool, full: bool) -> Stop
     }
 }
 
-// Two records in the place of the leading one; those above the high figure are dropped.
+// Two records in the place of the leading one; those above the high figure are dropped. The room for them is a fact of three contracts and of
+// no type: it holds only from the check in `halves` to this call.
 #[tactic(auto, unfolding(outcomes::specs::Searching::replaced))]
 fn replace(waiting: &mut Records, progress: Progress, halves: Halves) -> Progress
     requires { length waiting.old < 512 }
@@ -63,6 +64,8 @@ impl<M: Enclosure + Drop, R: Rule + Drop> Search<M, R> {
     }
 }
 
+// The clauses name the parts of the search each time, the meaning of its method, the answer of its rule and its table: so each call can be read
+// against the definitions by itself.
 impl<M: Enclosure, R: Rule> Search<M, R> {
     // Whether a component, counted from 1, is there.
     fn has_component(&self, component: usize) -> bool
@@ -75,8 +78,7 @@ impl<M: Enclosure, R: Rule> Search<M, R> {
     fn figures(&self, system: &System, component: usize) -> Result<Interval, SearchRefusal>
         ensures { ends_in result ≡ figures_of component (M.Enclosure.meaning self.now.method (table_of system.now)) }
     {
-        let mut row = [Interval::zero(); 6];
-        self.method.enclose(system, &mut row)?;
+        let row = row_by(&self.method, system)?;
         Ok(row.get(component).copied().unwrap_or(Interval::zero()))
     }
 
@@ -99,8 +101,7 @@ impl<M: Enclosure, R: Rule> Search<M, R> {
     fn place_by(&self, inner: &System) -> Result<usize, SearchRefusal>
         ensures { result ≡ place_by (R.Rule.answer self.now.rule) (table_of inner.now) (M.Enclosure.meaning self.now.method (table_of inner.now)) }
     {
-        let mut row = [Interval::zero(); 6];
-        self.method.enclose(inner, &mut row)?;
+        let row = row_by(&self.method, inner)?;
         self.rule
             .choose(inner, &row[..inner.size()])
             .ok_or(SearchRefusal::Settled)

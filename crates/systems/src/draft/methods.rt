@@ -38,6 +38,7 @@ impl Draft {
 
     /// Replaces the entry at a place. Refused with 2 where there is no such place, with 3 where an end is out of range and
     /// with 4 where the ends are out of order, in this order; the draft then stays as it was.
+    #[tactic(auto, unfolding(crate::specs::Tables::placed, crate::specs::Tables::tabled))]
     pub fn set(&mut self, place: usize, low: i32, high: i32) -> Result<(), Refusal>
         ensures { Changed result self.old self.new (placed place low high (drafted self.old)) }
     {

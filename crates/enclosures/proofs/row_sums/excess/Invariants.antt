@@ -4,5 +4,5 @@ use Rattle.systems.specs.Tables.{table_of}
 use Rattle.enclosures.specs.Excess.{part_of}
 use Rattle.enclosures.proofs.row_sums.excess.Given as goal
 
-abbrev pub invariant-loop-j : goal.invariant-loop-j
-invariant-loop-j l = (l.g ≡ part_of (table_of l.system) l.i l.j) × Within (neg_ℤ (pos (65536 * l.j))) (pos 65536) l.g
+abbrev pub invariant-loop-column : goal.invariant-loop-column
+invariant-loop-column l = (l.g ≡ part_of (table_of l.equation.system.now) l.equation.row l.column) × Within (neg_ℤ (pos (65536 * l.column))) (pos 65536) l.g

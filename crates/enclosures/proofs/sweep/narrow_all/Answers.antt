@@ -2,6 +2,7 @@ use Rattle.std.proofs.Common.{◌≡◌, ◌-◌, ◌<◌, map, length, sym, ap,
 use Rattle.std.proofs.lemmas.List.{length-map}
 use Rattle.std.proofs.lemmas.List.FromFn.{length-map-range_with_len}
 use Rattle.grains.specs.Arithmetic.{ends_of}
+use Rattle.systems.proofs.Tabled.{table_proper}
 use Rattle.systems.specs.Tables.{table_of}
 use Rattle.enclosures.specs.Elimination.{row_of, working_at}
 use Rattle.enclosures.specs.Sweeping.{swept_from}
@@ -28,3 +29,8 @@ returns c =
     let t = table_of c.args.system.now in
     let end : l.i ≡ t.size = omega (arith, c.requires) in
     sym (l.invariant ∙ ap (λ m. swept_from (t.size - m) m t (map ends_of l.row)) end ∙ swept_all t t.size (map ends_of l.row))
+
+pub invariant_of-new : goal.invariant_of-new
+invariant_of-new c =
+    let below : c.loop-i.i < (table_of c.args.system.now).size = omega (arith, c.requires) in
+    record { there = below; few = omega (arith, below, (table_proper c.args.system.now).few) }

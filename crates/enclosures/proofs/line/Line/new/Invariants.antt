@@ -6,4 +6,4 @@ use Rattle.enclosures.specs.Elimination.{working_at}
 use Rattle.enclosures.proofs.line.Line.new.Given as goal
 
 abbrev pub invariant-loop-entry : goal.invariant-loop-entry
-invariant-loop-entry l = map ends_of l.coefficients.items ≡ map (working_at (table_of l.system) l.i) (range_with_len 0 l.entry-index)
+invariant-loop-entry l = map ends_of l.coefficients.items ≡ map (working_at (table_of l.equation.system.now) l.equation.row) (range_with_len 0 l.entry-index)
