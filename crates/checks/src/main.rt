@@ -41,6 +41,16 @@ impl From<io::Error> for Failure {
     }
 }
 
+// A program that ends early prints the error of its output as that is. No system that is drawn is refused.
+impl From<Failure> for io::Error {
+    fn from(failure: Failure) -> io::Error {
+        match failure {
+            Failure::Refused(_) => io::Error::from(io::ErrorKind::InvalidData),
+            Failure::Printing(error) => error,
+        }
+    }
+}
+
 /// What was found for one method.
 #[derive(Clone, Copy, Default)]
 struct Tally {
@@ -149,6 +159,6 @@ fn check_all(rt: &impl Print) -> Result<(), Failure> {
     Ok(())
 }
 
-fn main(rt: HostRuntime) -> Result<(), Failure> {
-    check_all(&rt)
+fn main(rt: HostRuntime) -> io::Result<()> {
+    Ok(check_all(&rt)?)
 }

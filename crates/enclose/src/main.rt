@@ -1,6 +1,7 @@
 //! Reads a job from standard input and prints an interval for each component of the solutions of its system, in grains.
 #![tactic(auto)]
 
+use arrayvec::ArrayVec;
 use enclosures::elimination::Elimination;
 use enclosures::enclosure::row_by;
 use enclosures::fault::Fault;
@@ -14,7 +15,7 @@ use systems::refusal::Refusal;
 use systems::system::System;
 
 /// How many bytes of the input are read; the largest job has fewer.
-const ROOM: u64 = 512;
+const ROOM: usize = 512;
 
 /// Why a job has no rows.
 #[derive(Clone, Copy, PartialEq, Eq, Debug)]
@@ -84,9 +85,10 @@ fn rows_in(job: &[u8]) -> Result<Rows, NoRows> {
 }
 
 fn main(rt: HostRuntime) -> io::Result<()> {
-    let mut job = Vec::new(rt.alloc());
-    rt.stdin().take(ROOM).read_to_end(&mut job)?;
-    match rows_in(&job) {
+    // Fixed room: reading does not fail for want of memory.
+    let mut job = ArrayVec::<u8, ROOM>::new();
+    io::copy(&mut rt.stdin().take(ROOM as u64), &mut job)?;
+    match rows_in(job.as_slice()) {
         Ok(rows) => rows.print(&rt),
         Err(reason) => println!(rt; "{reason}"),
     }

@@ -1,9 +1,10 @@
 -- Absolute values, and the greatest and the least in an interval. Assumes nothing.
-use Rattle.std.specs.Prelude.{◌≡◌, ℕ, ℤ, pos, negsuc, ◌*ℤ◌, neg_ℤ, ◌≤ℤ◌, ◌<ℤ◌, refl}
-use Rattle.std.proofs.Common.{arith}
+use Rattle.std.specs.Prelude.{◌≡◌, ℕ, true, false, ℤ, pos, negsuc, ◌*ℤ◌, neg_ℤ, ◌≤ℤ◌, ◌<ℤ◌, refl}
+use Rattle.std.proofs.Common.{arith, sym, ◌∙◌}
 use Rattle.std.proofs.Math.IntN.{*ℤ-zero}
 use Rattle.std.proofs.lemmas.Int.{by_lt_z, clamps, ints}
-use Rattle.std.specs.Int.{int_max}
+use Rattle.std.proofs.lemmas.Bool.{cond-true, cond-false}
+use Rattle.std.specs.Int.{int_min, int_max}
 use Rattle.algebra.specs.Ends.{Ends, Ordered, Included}
 use Rattle.algebra.specs.Order.{Within}
 use Rattle.algebra.specs.Ring.{◌⊗◌, minus, ◌⩵◌}
@@ -63,7 +64,20 @@ pub mignitude_zero : (e : Ends) → e.low ≤ℤ pos 0 → pos 0 ≤ℤ e.high �
 unfolding mignitude contains_zero
 mignitude_zero e l h = grind (arith, ints)
 
--- as the code works them out
+-- by their ends
+pub magnitude_made : (e : Ends) (r : ℤ) → r ≡ int_max (absolute e.low) (absolute e.high) → r ≡ magnitude e
+unfolding magnitude
+magnitude_made e r made = made
+
+pub mignitude_none : (e : Ends) → contains_zero e ≡ true → pos 0 ≡ mignitude e
+unfolding mignitude
+mignitude_none e inside = sym (cond-true (contains_zero e) (pos 0) (int_min (absolute e.low) (absolute e.high)) inside)
+
+pub mignitude_made : (e : Ends) (r : ℤ) → contains_zero e ≡ false → r ≡ int_min (absolute e.low) (absolute e.high) → r ≡ mignitude e
+unfolding mignitude
+mignitude_made e r apart made = made ∙ sym (cond-false (contains_zero e) (pos 0) (int_min (absolute e.low) (absolute e.high)) apart)
+
+-- the least absolute value as the code works it out
 pub mignitude_clamped : (e : Ends) (r : ℤ) → Ordered e → r ≡ int_max (int_max e.low (neg_ℤ e.high)) (pos 0) → r ≡ mignitude e
 unfolding mignitude contains_zero
 mignitude_clamped e r o made = grind (arith, ints, clamps)

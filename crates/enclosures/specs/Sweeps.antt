@@ -1,9 +1,9 @@
 -- The steps of a sweep as the code takes them. Assumes nothing.
-use Rattle.std.specs.Prelude.{◌≡◌, ℕ, zero, suc, ◌+◌, ◌-◌, ◌<◌, List, [], ◌∷◌, ◌++◌, map, length, take, drop, pos, Some, None, Ok, Err, Option, Result, slice_index_or, slice_set, refl}
+use Rattle.std.specs.Prelude.{◌≡◌, ℕ, zero, suc, ◌+◌, ◌-◌, ◌<◌, ◌≤◌, List, [], ◌∷◌, ◌++◌, map, length, take, drop, pos, Some, None, Ok, Err, Option, Result, slice_index_or, slice_set, refl}
 use Rattle.std.proofs.Common.{arith, add-one, sym, ap, ◌∙◌, length-take, length-set, take-append-drop}
-use Rattle.std.proofs.lemmas.List.{get_or-map, drop-map, take-map, take_at, drop_at, length-map, map-set}
+use Rattle.std.proofs.lemmas.List.{drop-take, take-take, get_or-take, get_or-map, drop-map, take-map, take_at, drop_at, length-map, map-set}
 use Rattle.std.specs.Option.{option_map, unwrap_or}
-use Rattle.std.specs.List.{remove}
+use Rattle.std.specs.List.{between, remove}
 use Rattle.algebra.specs.Chaining.{and_then}
 use Rattle.algebra.specs.Ends.{Ends, from_to}
 use Rattle.grains.specs.Arithmetic.{ends_of, common_of, quotient_of}
@@ -17,6 +17,7 @@ use Rattle.enclosures.specs.Methods.{component_of}
 use Rattle.enclosures.specs.Sweeping.{solved_for, narrowed_at, narrowed_by, swept_from}
 use Rattle.enclosures.specs.Verdicts.{Verdict, Encloses}
 use Rattle.enclosures.specs.Working.{viewed}
+use Rattle.algebra.proofs.Filling.{between_start}
 
 then_then : {A B C E : Type 0} (r : Result A E) (f : A → Result B E) (g : B → Result C E) → and_then r (λ x. and_then (f x) g) ≡ and_then (and_then r f) g
 then_then (Ok x) f g = refl
@@ -29,6 +30,18 @@ products_append b (c ∷ cs) ds [] ys h = absurd (let z : ◌≡◌ {A = ℕ} 0 
 products_append b (c ∷ cs) ds (x ∷ xs) ys h =
     let k : length cs ≡ length xs = cc in
     (λ i. and_then (less_multiple c b x) (λ d. products_append d cs ds xs ys k i)) ∙ then_then (less_multiple c b x) (λ d. less_products d cs xs) (λ d. less_products d ds ys)
+
+-- the first n elements without element i are those before it and those behind it
+pub removed_taken : {X : Type 0} (xs : List X) (i n : ℕ) → i < n → remove (take n xs) i ≡ between 0 i xs ++ between (i + 1) n xs
+removed_taken xs i n h =
+    let front : take i (take n xs) ≡ between 0 i xs = take-take i n xs (omega arith) ∙ sym (between_start i xs) in
+    let all : suc i + (n - (i + 1)) ≡ n = omega arith in
+    let back : drop (suc i) (take n xs) ≡ between (i + 1) n xs =
+    ap (λ m. drop (suc i) (take m xs)) (sym all) ∙ drop-take (suc i) (n - (i + 1)) xs ∙ ap (λ m. take (n - (i + 1)) (drop m xs)) (sym (add-one i)) in
+    λ k. front k ++ back k
+
+pub component_taken : (xs : List Interval) (i n : ℕ) (x : Interval) → i < n → n ≤ length xs → component_of (take n (map ends_of xs)) i ≡ ends_of (slice_index_or xs i x)
+component_taken xs i n x h l = get_or-take n (map ends_of xs) i (from_to (pos 0) (pos 0)) h ∙ get_or-map ends_of xs i x (from_to (pos 0) (pos 0)) (omega arith)
 
 pub component_seen : (xs : List Interval) (i : ℕ) (x : Interval) → i < length xs → component_of (map ends_of xs) i ≡ ends_of (slice_index_or xs i x)
 component_seen xs i x h = get_or-map ends_of xs i x (from_to (pos 0) (pos 0)) h

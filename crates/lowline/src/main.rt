@@ -1,6 +1,7 @@
 //! Reads a job from standard input and prints, for each component of the solutions of its system, a figure that it is never below.
 #![tactic(auto)]
 
+use arrayvec::ArrayVec;
 use solver::line::find_line;
 use solver::solving::system_of;
 use std::io::Read;
@@ -9,7 +10,7 @@ use std::{env, io};
 use systems::system::System;
 
 /// How many bytes of the input are read; the largest job has fewer.
-const ROOM: u64 = 512;
+const ROOM: usize = 512;
 
 /// What the words after the program's name ask for.
 #[derive(Clone, Copy, PartialEq, Eq, Debug)]
@@ -70,9 +71,10 @@ fn print_lines(rt: &HostRuntime, system: System) -> io::Result<()> {
 }
 
 fn solve_input(rt: &HostRuntime) -> io::Result<()> {
-    let mut job = Vec::new(rt.alloc());
-    rt.stdin().take(ROOM).read_to_end(&mut job)?;
-    match system_of(&job) {
+    // Fixed room: reading a job, and refusing it, takes no memory.
+    let mut job = ArrayVec::<u8, ROOM>::new();
+    io::copy(&mut rt.stdin().take(ROOM as u64), &mut job)?;
+    match system_of(job.as_slice()) {
         Ok(system) => print_lines(rt, system),
         Err(refusal) => println!(rt; "{refusal}"),
     }

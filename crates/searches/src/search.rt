@@ -1,4 +1,6 @@
 //! The search over a system, by a method and a rule.
+ghost use Rattle.std.specs.Prelude.{◌≤◌, length};
+
 use crate::records::Records;
 use outcomes::record::Entered;
 use systems::system::System;
@@ -35,4 +37,5 @@ pub struct Search<M, R> {
     rule: R,
     progress: Option<Progress>,
     waiting: Records,
+    ghost few: { length waiting ≤ 512 },
 }

@@ -1,3 +1,4 @@
+pub mod Corners
 pub mod Counts
 pub mod Determinants
 pub mod Draws

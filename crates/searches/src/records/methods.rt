@@ -1,4 +1,4 @@
-ghost use Rattle.std.specs.Prelude.{◌≡◌, ◌<◌, [], ◌∷◌, ◌++◌, length, IfOk, MatchOption, nat_le};
+ghost use Rattle.std.specs.Prelude.{◌≡◌, ◌<◌, ◌≤◌, [], ◌∷◌, ◌++◌, length, IfOk, MatchOption, nat_le};
 ghost use Rattle.std.specs.List.{remove};
 ghost use Rattle.outcomes.specs.Waiting.{leading_at, leading, kept_below};
 
@@ -72,7 +72,8 @@ impl Records {
 
     // Drops each record whose low figure is above the high figure; the others keep their order.
     pub(crate) fn drop_above(&mut self, high: i64)
-        ensures { self.new ≡ kept_below high self.old }
+        ensures items { self.new ≡ kept_below high self.old }
+        ensures few { length self.new ≤ 512 }
     {
         // By a rule of this project dropping is a loop over the waiting records that compares each with the high figure, so no `retain`.
         let mut count = 0;

@@ -1,4 +1,4 @@
-ghost use Rattle.std.specs.Prelude.{◌≡◌, ◌<◌, true, ◌&&◌, length, is_ok, IfOk, if◌then◌else◌, Some, None, ◌==◌, nat_le};
+ghost use Rattle.std.specs.Prelude.{◌≡◌, ◌<◌, ◌≤◌, true, ◌&&◌, length, is_ok, IfOk, if◌then◌else◌, Some, None, ◌==◌, nat_le};
 ghost use Rattle.systems.specs.Tables.{table_of, wide_entries};
 ghost use Rattle.outcomes.specs.declared.reading.Stop.TheVariants as stop;
 ghost use Rattle.outcomes.specs.Promise.{Promised};
@@ -36,7 +36,8 @@ fn stop_at(settled: bool, full: bool) -> Stop
 #[tactic(auto, unfolding(outcomes::specs::Searching::replaced))]
 fn replace(waiting: &mut Records, progress: Progress, halves: Halves) -> Progress
     requires { length waiting.old < 512 }
-    ensures { started_from result waiting.new ≡ replaced (started_from progress waiting.old) halves.low halves.high }
+    ensures outcome { started_from result waiting.new ≡ replaced (started_from progress waiting.old) halves.low halves.high }
+    ensures few { length waiting.new ≤ 512 }
 {
     let high = progress.high.min(halves.low.high).min(halves.high.high);
     waiting.replace_leading(halves.low.waiting, halves.high.waiting);

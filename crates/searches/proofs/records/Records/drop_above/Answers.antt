@@ -16,9 +16,9 @@ loop-place-preserved c =
       | else-record-high w ↦ rw (w.self-inside-is, w.count-is) (FiltersInPlace-more_no c.loop-place.invariant (search rules) (sym tests ∙ w.if-record-high.false) c.index-record.ensures)
     ]
 
-pub returns : goal.returns
+pub returns-clause-items : goal.returns-clause-items
 unfolding kept_below
-returns c =
+returns-clause-items c =
     c.truncate.ensures.items
     ∙ FiltersInPlace-all c.loop-place.invariant (search rules)
     ∙ (λ i. filter (not_above (to_z-of_z w64 c.args.high c.ranges.high i)) (c.self.view_is i))
