@@ -41,16 +41,6 @@ impl From<io::Error> for Failure {
     }
 }
 
-// A program that ends early prints the error of its output as that is. No system that is drawn is refused.
-impl From<Failure> for io::Error {
-    fn from(failure: Failure) -> io::Error {
-        match failure {
-            Failure::Refused(_) => io::Error::from(io::ErrorKind::InvalidData),
-            Failure::Printing(error) => error,
-        }
-    }
-}
-
 /// What was found for one method.
 #[derive(Clone, Copy, Default)]
 struct Tally {
@@ -159,6 +149,14 @@ fn check_all(rt: &impl Print) -> Result<(), Failure> {
     Ok(())
 }
 
+// An early end is that of the output. No system that is drawn is refused; if one were, this says why.
 fn main(rt: HostRuntime) -> io::Result<()> {
-    Ok(check_all(&rt)?)
+    match check_all(&rt) {
+        Ok(()) => Ok(()),
+        Err(Failure::Printing(error)) => Err(error),
+        Err(Failure::Refused(refusal)) => {
+            eprintln!(rt; "checks: a system that was drawn is {refusal}")?;
+            Err(io::Error::from(io::ErrorKind::InvalidData))
+        }
+    }
 }

@@ -64,7 +64,7 @@ pub mignitude_zero : (e : Ends) → e.low ≤ℤ pos 0 → pos 0 ≤ℤ e.high �
 unfolding mignitude contains_zero
 mignitude_zero e l h = grind (arith, ints)
 
--- by their ends
+-- by their ends: general statements, which stand for others to use
 pub magnitude_made : (e : Ends) (r : ℤ) → r ≡ int_max (absolute e.low) (absolute e.high) → r ≡ magnitude e
 unfolding magnitude
 magnitude_made e r made = made

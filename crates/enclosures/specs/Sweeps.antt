@@ -31,7 +31,7 @@ products_append b (c ∷ cs) ds (x ∷ xs) ys h =
     let k : length cs ≡ length xs = cc in
     (λ i. and_then (less_multiple c b x) (λ d. products_append d cs ds xs ys k i)) ∙ then_then (less_multiple c b x) (λ d. less_products d cs xs) (λ d. less_products d ds ys)
 
--- the first n elements without element i are those before it and those behind it
+-- general statements, which stand for others to use: the first n elements without element i are those before it and those behind it
 pub removed_taken : {X : Type 0} (xs : List X) (i n : ℕ) → i < n → remove (take n xs) i ≡ between 0 i xs ++ between (i + 1) n xs
 removed_taken xs i n h =
     let front : take i (take n xs) ≡ between 0 i xs = take-take i n xs (omega arith) ∙ sym (between_start i xs) in

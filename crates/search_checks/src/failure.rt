@@ -41,17 +41,3 @@ impl From<io::Error> for Failure {
         Failure::Printing(error)
     }
 }
-
-// A program that ends early prints the error of its output, or the want of memory, as that is. No system that is drawn is refused, and no call
-// that is due.
-impl From<Failure> for io::Error {
-    fn from(failure: Failure) -> io::Error {
-        match failure {
-            Failure::Refused(_) | Failure::SearchRefused(_) => {
-                io::Error::from(io::ErrorKind::InvalidData)
-            }
-            Failure::Memory => io::Error::from(AllocError),
-            Failure::Printing(error) => error,
-        }
-    }
-}

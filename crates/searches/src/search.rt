@@ -37,5 +37,6 @@ pub struct Search<M, R> {
     rule: R,
     progress: Option<Progress>,
     waiting: Records,
+    // For callers, who see the table as a list.
     ghost few: { length waiting ≤ 512 },
 }
